@@ -1,0 +1,73 @@
+-- What the reading lets through: a KeyUID of 1 to 16 bytes and a key of 32.
+-- Assumes nothing.
+use mathlib.Core.Path.{_≡_}
+use mathlib.Core.Bool.{false}
+use mathlib.Core.List.{List}
+use Prim.Native.Nat.{ℕ, zero, suc, _+_, _≤_}
+use native.Mathlib.Omega.{arith}
+use lib.ListN.{length, getD}
+use lib.Dec.{eqb}
+use borrow.Author.Tests.{eqb-true, eqb-false, ltb-false, not-false}
+use Rattle.cells.specs.Cells.{part}
+use Rattle.cells.proofs.CellsLaws.{length-part}
+use Rattle.cells.proofs.TestsLaws.{or-left, or-right}
+use Rattle.rules.specs.Numbers.{uidMost, keySize}
+use Rattle.rules.specs.Checks.{AllPass}
+use Rattle.rules.specs.FrameLine.{byte}
+use Rattle.rules.specs.Frames.{Frame, manage, release, load, replace, clearOne, clearAll, io, setFeatures, getFeatures, bootWrite, reset, unknown, badUidLength, readLoad, readReplace, unknownKind, kinds, readFrame}
+
+pub record FitKey (uid key : List ℕ) : Type 0 where
+  pub some : 1 ≤ length uid
+  pub short : length uid ≤ uidMost
+  pub whole : length key ≡ keySize
+
+abbrev pub Fit : Frame → Type 0
+Fit (manage ns tags) = Unit {0}
+Fit (release ns) = Unit {0}
+Fit (load ns tag uid key) = FitKey uid key
+Fit (replace ns tag old uid key) = FitKey uid key
+Fit (clearOne ns tag) = Unit {0}
+Fit (clearAll ns) = Unit {0}
+Fit (io c) = Unit {0}
+Fit (setFeatures dword11) = Unit {0}
+Fit getFeatures = Unit {0}
+Fit (bootWrite partition) = Unit {0}
+Fit (reset level) = Unit {0}
+Fit unknown = Unit {0}
+
+-- a KeyUID of l bytes from a, and the key behind it
+fit-at : (f : List ℕ) (a l : ℕ) → badUidLength l ≡ false → length f ≡ a + l + keySize → FitKey (part a l f) (part (a + l) keySize f)
+fit-at f a l b e =
+    let n : l ≡ 0 → ⊥ = eqb-false l 0 (or-left _ _ b) in
+    let m : l ≤ uidMost = ltb-false uidMost l (or-right (eqb l 0) _ b) in
+    let u : length (part a l f) ≡ l = length-part a l f (omega arith) in
+    record { some = omega arith; short = omega arith; whole = length-part (a + l) keySize f (omega arith) }
+
+load-fits : (f : List ℕ) → AllPass (readLoad f .checks) → Fit (readLoad f .frame)
+unfolding readLoad
+load-fits f p = fit-at f 5 (byte 4 f) (p .1 .0) (eqb-true _ _ (not-false _ (p .1 .1 .0)))
+
+replace-fits : (f : List ℕ) → AllPass (readReplace f .checks) → Fit (readReplace f .frame)
+unfolding readReplace
+replace-fits f p = fit-at f (6 + byte 4 f) (byte (5 + byte 4 f) f) (p .1 .1 .1 .0) (eqb-true _ _ (not-false _ (p .1 .1 .1 .1 .0)))
+
+-- by the kind
+kind-fits : (f : List ℕ) (k : ℕ) → AllPass (getD (kinds f) k unknownKind .checks) → Fit (getD (kinds f) k unknownKind .frame)
+unfolding kinds
+kind-fits f zero p = tt
+kind-fits f (suc zero) p = tt
+kind-fits f (suc (suc zero)) p = tt
+kind-fits f (suc (suc (suc zero))) p = load-fits f p
+kind-fits f (suc (suc (suc (suc zero)))) p = replace-fits f p
+kind-fits f (suc (suc (suc (suc (suc zero))))) p = tt
+kind-fits f (suc (suc (suc (suc (suc (suc zero)))))) p = tt
+kind-fits f (suc (suc (suc (suc (suc (suc (suc zero))))))) p = tt
+kind-fits f (suc (suc (suc (suc (suc (suc (suc (suc zero)))))))) p = tt
+kind-fits f (suc (suc (suc (suc (suc (suc (suc (suc (suc zero))))))))) p = tt
+kind-fits f (suc (suc (suc (suc (suc (suc (suc (suc (suc (suc zero)))))))))) p = tt
+kind-fits f (suc (suc (suc (suc (suc (suc (suc (suc (suc (suc (suc zero))))))))))) p = tt
+kind-fits f (suc (suc (suc (suc (suc (suc (suc (suc (suc (suc (suc (suc k)))))))))))) p = tt
+
+pub fits : (f : List ℕ) → AllPass (readFrame f .checks) → Fit (readFrame f .frame)
+unfolding readFrame
+fits f p = kind-fits f (byte 0 f) p

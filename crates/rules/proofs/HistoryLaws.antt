@@ -1,0 +1,314 @@
+-- What a drive and its history have in common: slots, counts and marks are as
+-- the backward search says. It holds of a fresh drive and no history, and every
+-- line keeps it.
+-- Assumes nothing.
+use mathlib.Core.Path.{_≡_, refl, sym, ap, _∙_}
+use mathlib.Core.Bool.{Bool, true, false, not, _&&_, cond, true≢false}
+use mathlib.Core.List.{List, [], _∷_}
+use mathlib.Core.Logic.{⊎-elim}
+use Prim.Native.Nat.{ℕ, _-_, _<_}
+use native.Mathlib.Omega.{arith}
+use lib.Dec.{eqb}
+use Rattle.cells.specs.Cells.{part, zeros}
+use Rattle.cells.specs.Tests.{allZero, someFrom, someCell}
+use Rattle.cells.proofs.CellsLaws.{length-zeros, getD-zeros, cell-zeros}
+use Rattle.rules.specs.declared.Namespace.{Namespace}
+use Rattle.rules.specs.declared.Tag.{Tag}
+use Rattle.rules.specs.declared.Refusal.{Refusal}
+use Rattle.rules.specs.declared.Answer.the-variants.{Refused}
+use Rattle.rules.specs.Numbers.{namespaces, blocksEach, slotWidth, cacheSize, markWidth, storeSize}
+use Rattle.rules.specs.Checks.{AllPass}
+use Rattle.rules.specs.Answers.{accepted}
+use Rattle.rules.specs.State.{State, Sized, sameNamespace, count, managed}
+use Rattle.rules.specs.Slots.{placeOf, slot, emptied, loaded, uidOf, keyOf, Held, nothing, holding, held}
+use Rattle.rules.specs.Marks.{blockOf, mark, neverWritten, identityOf}
+use Rattle.rules.specs.Sound.{someAbove, slotUnsound, unsound}
+use Rattle.rules.specs.Frames.{Command, Frame, manage, release, load, replace, clearOne, clearAll, io, setFeatures, getFeatures, bootWrite, reset, unknown}
+use Rattle.rules.specs.Order as order
+use Rattle.rules.specs.Order.{frameRule, frameOf, isWrite, keyChecks, step}
+use Rattle.rules.specs.Start.{freshDrive, fresh}
+use Rattle.rules.specs.History.{Event, touches, leaves, holds, covers, writtenAfter, lastWritten, countAfter, tagCount}
+use Rattle.rules.specs.Promises.{IsNamespace, IsSlot, after, history}
+use Rattle.rules.proofs.StateLaws.{same-namespace, unmanaged}
+use Rattle.rules.proofs.FramesLaws.{Fit}
+use Rattle.rules.proofs.SlotsLaws.{bytesOf, FitHeld, held-bytes, uid-stored, key-stored, same-key, no-other-key}
+use Rattle.rules.proofs.EffectsLaws.{named-slot}
+use Rattle.rules.proofs.AcceptedLaws.{accepts, in-namespace, key-checks, sized-effect, touched, untouched, Storable, storable, count-effect, markAfter, mark-effect}
+use Rattle.rules.proofs.StepLaws.{refused-or-taken, sound-effect}
+
+-- no two loaded slots have equal KeyUIDs and unequal keys
+abbrev pub Apart : State → Type 0
+Apart s =
+    (ns ns′ : Namespace) (tag tag′ : Tag) → IsSlot ns tag → IsSlot ns′ tag′
+    → loaded (slot s ns tag) ≡ true → loaded (slot s ns′ tag′) ≡ true
+    → uidOf (slot s ns tag) ≡ uidOf (slot s ns′ tag′)
+    → keyOf (slot s ns tag) ≡ keyOf (slot s ns′ tag′)
+
+pub record Kept (s : State) (h : List Event) : Type 0 where
+  pub sized : Sized s
+  pub sound : unsound s ≡ false
+  pub slots : (ns : Namespace) (tag : Tag) → IsSlot ns tag → slot s ns tag ≡ bytesOf (holds ns tag h)
+  pub fit : (ns : Namespace) (tag : Tag) → FitHeld (holds ns tag h)
+  pub apart : Apart s
+  pub counts : (ns : Namespace) → IsNamespace ns → count s ns ≡ tagCount ns h
+  pub marks : (ns : Namespace) → IsNamespace ns → (block : ℕ) → block < blocksEach
+      → mark s ns block ≡ cond (managed s ns) (identityOf (lastWritten ns block h)) neverWritten
+  pub written : (ns : Namespace) (block : ℕ) → FitHeld (lastWritten ns block h)
+
+-- ------------------------------------------------------------------------
+-- A fresh drive
+
+fresh-sound : unsound fresh ≡ false
+unfolding unsound someAbove slotUnsound someCell someFrom allZero part zeros freshDrive
+fresh-sound = refl
+
+fresh-slot : (ns : Namespace) (tag : Tag) → IsSlot ns tag → slot fresh ns tag ≡ emptied
+fresh-slot ns tag is = cell-zeros slotWidth (placeOf ns tag) cacheSize (omega arith)
+
+fresh-count : (ns : Namespace) → IsNamespace ns → count fresh ns ≡ 0
+unfolding freshDrive
+fresh-count ns is = getD-zeros namespaces (ns .0 - 1) (omega arith)
+
+emptied-not : loaded emptied ≡ true → ⊥
+unfolding zeros
+emptied-not e = true≢false (sym e)
+
+fresh-sized : Sized fresh
+unfolding freshDrive
+fresh-sized = record { counts = length-zeros namespaces; cache = length-zeros cacheSize; store = length-zeros storeSize }
+
+pub kept-fresh : Kept fresh []
+unfolding holds lastWritten tagCount
+kept-fresh = record {
+  sized = fresh-sized;
+  sound = fresh-sound;
+  slots = fresh-slot;
+  fit = λ ns tag. tt;
+  apart = λ ns ns′ tag tag′ is is′ l l′ e. absurd (emptied-not (ap loaded (sym (fresh-slot ns tag is)) ∙ l));
+  counts = fresh-count;
+  marks = λ ns is block b. cell-zeros markWidth (blockOf ns block) storeSize (omega arith)
+      ∙ ap (λ n. cond (not (eqb n 0)) neverWritten neverWritten) (sym (fresh-count ns is));
+  written = λ ns block. tt;
+}
+
+-- ------------------------------------------------------------------------
+-- A refused line
+
+pub kept-refused : (s : State) (h : List Event) (line : List ℕ) (r : Refusal) → Kept s h → Kept s (record { line = line; answer = Refused r } ∷ h)
+unfolding holds lastWritten tagCount
+kept-refused s h line r k = record {
+  sized = k .sized;
+  sound = k .sound;
+  slots = k .slots;
+  fit = k .fit;
+  apart = k .apart;
+  counts = k .counts;
+  marks = k .marks;
+  written = k .written;
+}
+
+-- ------------------------------------------------------------------------
+-- A frame that is taken
+
+leaves-fit : (f : Frame) → Fit f → FitHeld (leaves f)
+leaves-fit (manage n tags) fit = tt
+leaves-fit (release n) fit = tt
+leaves-fit (load n t uid key) fit = fit
+leaves-fit (replace n t old uid key) fit = fit
+leaves-fit (clearOne n t) fit = tt
+leaves-fit (clearAll n) fit = tt
+leaves-fit (io c) fit = tt
+leaves-fit (setFeatures dword11) fit = tt
+leaves-fit getFeatures fit = tt
+leaves-fit (bootWrite partition) fit = tt
+leaves-fit (reset level) fit = tt
+leaves-fit unknown fit = tt
+
+cond-fit : (b : Bool) (x y : Held) → FitHeld x → FitHeld y → FitHeld (cond b x y)
+cond-fit true x y p q = p
+cond-fit false x y p q = q
+
+written-fit : (ns : Namespace) (block : ℕ) (f : Frame) (h : List Event) (x : Held) → ((tag : Tag) → FitHeld (holds ns tag h)) → FitHeld x → FitHeld (writtenAfter ns block f h x)
+written-fit ns block (manage n tags) h x p q = cond-fit (sameNamespace ns n) nothing x tt q
+written-fit ns block (release n) h x p q = q
+written-fit ns block (load n t uid key) h x p q = q
+written-fit ns block (replace n t old uid key) h x p q = q
+written-fit ns block (clearOne n t) h x p q = q
+written-fit ns block (clearAll n) h x p q = q
+written-fit ns block (io c) h x p q = cond-fit (isWrite c && sameNamespace ns (c .ns) && covers c block) (holds ns (c .tag) h) x (p (c .tag)) q
+written-fit ns block (setFeatures dword11) h x p q = q
+written-fit ns block getFeatures h x p q = q
+written-fit ns block (bootWrite partition) h x p q = q
+written-fit ns block (reset level) h x p q = q
+written-fit ns block unknown h x p q = q
+
+-- the key that a command of a managed namespace names
+pub named-key : (s : State) (h : List Event) → Kept s h → (c : Command) → IsNamespace (c .ns) → AllPass (keyChecks s c) → held (slot s (c .ns) (c .tag)) ≡ holds (c .ns) (c .tag) h
+named-key s h k c is p =
+    ap held (k .slots (c .ns) (c .tag) (named-slot s (k .sound) (c .ns) (c .tag) is (p .1 .0)))
+    ∙ held-bytes (holds (c .ns) (c .tag) h) (k .fit (c .ns) (c .tag))
+
+cond-same : {A : Type 0} (b : Bool) (x : A) → cond b x x ≡ x
+cond-same true x = refl
+cond-same false x = refl
+
+module _ (s : State) (h : List Event) (k : Kept s h) (f : Frame) (fit : Fit f) (passes : AllPass (frameRule s f .checks)) where
+  abbrev next : State
+  next = frameRule s f .effect
+
+  module _ (ns : Namespace) (tag : Tag) (is : IsSlot ns tag) where
+    now-touched : touches ns tag f ≡ true → slot next ns tag ≡ bytesOf (leaves f)
+    now-touched e = touched s (k .sized) (k .sound) ns tag is f fit passes e
+
+    now-untouched : touches ns tag f ≡ false → slot next ns tag ≡ slot s ns tag
+    now-untouched e = untouched s (k .sized) (k .sound) ns tag is f fit passes e
+
+    slot-told : (b : Bool) → touches ns tag f ≡ b → slot next ns tag ≡ bytesOf (cond b (leaves f) (holds ns tag h))
+    slot-told true e = now-touched e
+    slot-told false e = now-untouched e ∙ k .slots ns tag is
+
+  -- a slot with a new key, and one that was there before
+  new-key : (ns : Namespace) (tag : Tag) (is : IsSlot ns tag) (x : Held) → Storable s (k .sized) (k .sound) ns tag is next x → loaded (bytesOf x) ≡ true
+      → (ns′ : Namespace) (tag′ : Tag) → IsSlot ns′ tag′ → loaded (slot s ns′ tag′) ≡ true → uidOf (bytesOf x) ≡ uidOf (slot s ns′ tag′)
+      → keyOf (bytesOf x) ≡ keyOf (slot s ns′ tag′)
+  new-key ns tag is nothing p l ns′ tag′ is′ l′ e = absurd (emptied-not l)
+  new-key ns tag is (holding uid key) p l ns′ tag′ is′ l′ e =
+      key-stored uid key (p .0)
+      ∙ sym (same-key uid key (slot s ns′ tag′) (no-other-key s uid key (p .1 .1) ns′ tag′ is′) l′ (sym e ∙ uid-stored uid key (p .0)))
+
+  module _ (ns ns′ : Namespace) (tag tag′ : Tag) (is : IsSlot ns tag) (is′ : IsSlot ns′ tag′) where
+    one-new : touches ns tag f ≡ true → touches ns′ tag′ f ≡ false → loaded (slot next ns tag) ≡ true → loaded (slot next ns′ tag′) ≡ true
+        → uidOf (slot next ns tag) ≡ uidOf (slot next ns′ tag′) → keyOf (slot next ns tag) ≡ keyOf (slot next ns′ tag′)
+    one-new a b l l′ e =
+        let t = now-touched ns tag is a in
+        let u = now-untouched ns′ tag′ is′ b in
+        ap keyOf t
+        ∙ new-key ns tag is (leaves f) (storable s (k .sized) (k .sound) ns tag is f fit passes a)
+        (ap loaded (sym t) ∙ l) ns′ tag′ is′ (ap loaded (sym u) ∙ l′) (ap uidOf (sym t) ∙ e ∙ ap uidOf u)
+        ∙ ap keyOf (sym u)
+
+  apart-next : (ns ns′ : Namespace) (tag tag′ : Tag) → IsSlot ns tag → IsSlot ns′ tag′ → (b b′ : Bool) → touches ns tag f ≡ b → touches ns′ tag′ f ≡ b′
+      → loaded (slot next ns tag) ≡ true → loaded (slot next ns′ tag′) ≡ true → uidOf (slot next ns tag) ≡ uidOf (slot next ns′ tag′)
+      → keyOf (slot next ns tag) ≡ keyOf (slot next ns′ tag′)
+  apart-next ns ns′ tag tag′ is is′ true true t t′ l l′ e = ap keyOf (now-touched ns tag is t ∙ sym (now-touched ns′ tag′ is′ t′))
+  apart-next ns ns′ tag tag′ is is′ true false t t′ l l′ e = one-new ns ns′ tag tag′ is is′ t t′ l l′ e
+  apart-next ns ns′ tag tag′ is is′ false true t t′ l l′ e = sym (one-new ns′ ns tag′ tag is′ is t′ t l′ l (sym e))
+  apart-next ns ns′ tag tag′ is is′ false false t t′ l l′ e =
+      let u = now-untouched ns tag is t in
+      let u′ = now-untouched ns′ tag′ is′ t′ in
+      ap keyOf u
+      ∙ k .apart ns ns′ tag tag′ is is′ (ap loaded (sym u) ∙ l) (ap loaded (sym u′) ∙ l′) (ap uidOf (sym u) ∙ e ∙ ap uidOf u′)
+      ∙ ap keyOf (sym u′)
+
+  -- ----------------------------------------------------------------------
+  -- Marks
+
+  module _ (ns : Namespace) (is : IsNamespace ns) (block : ℕ) (inside : block < blocksEach) where
+    abbrev last : Held
+    last = lastWritten ns block h
+
+    -- the mark that a namespace with this count and a block last written under this have
+    abbrev told : ℕ → Held → List ℕ
+    told n x = cond (not (eqb n 0)) (identityOf x) neverWritten
+
+    before : mark s ns block ≡ told (count s ns) last
+    before = k .marks ns is block inside
+
+    unmarked : count s ns ≡ 0 → mark s ns block ≡ neverWritten
+    unmarked z = before ∙ ap (λ n. told n last) z
+
+    managing : (n : Namespace) (tags : ℕ) → (count s n ≡ 0) → (b : Bool) → sameNamespace ns n ≡ b
+        → mark s ns block ≡ told (cond b tags (count s ns)) (cond b nothing last)
+    managing n tags z true e = unmarked (ap (count s) (same-namespace ns n e) ∙ z) ∙ sym (cond-same (not (eqb tags 0)) neverWritten)
+    managing n tags z false e = before
+
+    releasing : (b : Bool) → cond b neverWritten (mark s ns block) ≡ told (cond b 0 (count s ns)) last
+    releasing true = refl
+    releasing false = before
+
+    -- by: the namespace is managed, the command is a write, to this namespace, and covers the block
+    writing : (c : Command) → (managed s (c .ns) ≡ true → identityOf (held (slot s (c .ns) (c .tag))) ≡ identityOf (holds (c .ns) (c .tag) h))
+        → (m w n v : Bool) → managed s (c .ns) ≡ m → sameNamespace ns (c .ns) ≡ n
+        → cond (m && w && (n && v)) (identityOf (held (slot s ns (c .tag)))) (mark s ns block) ≡ told (count s ns) (cond (w && n && v) (holds ns (c .tag) h) last)
+    writing c key true true true true m n =
+        let same : ns ≡ c .ns = same-namespace ns (c .ns) n in
+        let took : managed s ns ≡ true = ap (managed s) same ∙ m in
+        rw took (ap (λ x. identityOf (held (slot s x (c .tag)))) same ∙ key m ∙ ap (λ x. identityOf (holds x (c .tag) h)) (sym same))
+    writing c key false true true true m n =
+        let none : managed s ns ≡ false = ap (managed s) (same-namespace ns (c .ns) n) ∙ m in
+        before ∙ ap (λ b. cond b (identityOf last) neverWritten) none ∙ ap (λ b. cond b (identityOf (holds ns (c .tag) h)) neverWritten) (sym none)
+    writing c key true true true false m n = before
+    writing c key false true true false m n = before
+    writing c key true true false v m n = before
+    writing c key false true false v m n = before
+    writing c key true false n v m e = before
+    writing c key false false n v m e = before
+
+    mark-told : (g : Frame) → AllPass (frameRule s g .checks)
+        → markAfter s (k .sized) (k .sound) ns is block inside g ≡ told (countAfter ns g (count s ns)) (writtenAfter ns block g h last)
+    unfolding frameRule order.manage
+    mark-told (manage n tags) p = managing n tags (unmanaged s n (p .1 .0)) (sameNamespace ns n) refl
+    mark-told (release n) p = releasing (sameNamespace ns n)
+    mark-told (load n t uid key) p = before
+    mark-told (replace n t old uid key) p = before
+    mark-told (clearOne n t) p = before
+    mark-told (clearAll n) p = before
+    mark-told (io c) p =
+        writing c (λ m. ap identityOf (named-key s h k c (in-namespace s c p) (key-checks s c p m)))
+        (managed s (c .ns)) (isWrite c) (sameNamespace ns (c .ns)) (covers c block) refl refl
+    mark-told (setFeatures dword11) p = before
+    mark-told getFeatures p = before
+    mark-told (bootWrite partition) p = before
+    mark-told (reset level) p = before
+    mark-told unknown p = before
+
+    mark-next : mark next ns block ≡ told (count next ns) (writtenAfter ns block f h last)
+    mark-next =
+        mark-effect s (k .sized) (k .sound) ns is block inside f passes
+        ∙ mark-told f passes
+        ∙ ap (λ n. told n (writtenAfter ns block f h last)) (sym (count-effect s (k .sized) (k .sound) ns is f passes))
+
+-- the history grows by an accepted line
+module _ (e : Event) (h : List Event) (took : accepted (e .answer) ≡ true) where
+  holds-next : (ns : Namespace) (tag : Tag) → holds ns tag (e ∷ h) ≡ cond (touches ns tag (frameOf (e .line))) (leaves (frameOf (e .line))) (holds ns tag h)
+  unfolding holds
+  holds-next ns tag = rw took
+
+  written-next : (ns : Namespace) (block : ℕ) → lastWritten ns block (e ∷ h) ≡ writtenAfter ns block (frameOf (e .line)) h (lastWritten ns block h)
+  unfolding lastWritten
+  written-next ns block = rw took
+
+  count-next : (ns : Namespace) → tagCount ns (e ∷ h) ≡ countAfter ns (frameOf (e .line)) (tagCount ns h)
+  unfolding tagCount
+  count-next ns = rw took
+
+pub kept-taken : (s : State) (h : List Event) (e : Event) → Kept s h → Fit (frameOf (e .line)) → AllPass (frameRule s (frameOf (e .line)) .checks)
+    → accepted (e .answer) ≡ true → Kept (frameRule s (frameOf (e .line)) .effect) (e ∷ h)
+kept-taken s h e k fit p took =
+    let f : Frame = frameOf (e .line) in
+    record {
+      sized = sized-effect s (k .sized) (k .sound) f fit p;
+      sound = sound-effect s (k .sized) (k .sound) f fit p;
+      slots = λ ns tag is. slot-told s h k f fit p ns tag is (touches ns tag f) refl ∙ ap bytesOf (sym (holds-next e h took ns tag));
+      fit = λ ns tag. rw (holds-next e h took ns tag) (cond-fit (touches ns tag f) (leaves f) (holds ns tag h) (leaves-fit f fit) (k .fit ns tag));
+      apart = λ ns ns′ tag tag′ is is′. apart-next s h k f fit p ns ns′ tag tag′ is is′ (touches ns tag f) (touches ns′ tag′ f) refl refl;
+      counts = λ ns is. count-effect s (k .sized) (k .sound) ns is f p ∙ ap (countAfter ns f) (k .counts ns is) ∙ sym (count-next e h took ns);
+      marks = λ ns is block b. mark-next s h k f fit p ns is block b
+          ∙ ap (λ x. cond (managed (frameRule s f .effect) ns) (identityOf x) neverWritten) (sym (written-next e h took ns block));
+      written = λ ns block. rw (written-next e h took ns block) (written-fit ns block f h (lastWritten ns block h) (k .fit ns) (k .written ns block));
+    }
+
+-- ------------------------------------------------------------------------
+-- Any lines from a fresh drive
+
+kept-step : (s : State) (h : List Event) (line : List ℕ) → Kept s h → Kept (step s line .state) (record { line = line; answer = step s line .answer } ∷ h)
+kept-step s h line k =
+    ⊎-elim
+    (λ r. rw (r .1) (kept-refused s h line (r .0) k))
+    (λ t. rw (t .is) (kept-taken s h (record { line = line; answer = frameRule s (frameOf line) .answer }) k (t .fit) (t .passes) (accepts s (frameOf line))))
+    (refused-or-taken s line)
+
+pub kept-after : (lines : List (List ℕ)) → Kept (after lines) (history lines)
+unfolding after history
+kept-after [] = kept-fresh
+kept-after (line ∷ older) = kept-step (after older) (history older) line (kept-after older)

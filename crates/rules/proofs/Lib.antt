@@ -1,0 +1,14 @@
+pub mod ChecksLaws
+pub mod StateLaws
+pub mod FramesLaws
+pub mod SlotsLaws
+pub mod SoundLaws
+pub mod EffectsLaws
+pub mod AcceptedLaws
+pub mod StepLaws
+pub mod MarksLaws
+pub mod HistoryLaws
+pub mod PoolLaws
+pub mod LocksLaws
+pub mod Promised
+pub mod Bench

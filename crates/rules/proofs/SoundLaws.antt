@@ -1,0 +1,137 @@
+-- A sound state slot by slot, and that sound slots make a sound state.
+-- Assumes nothing.
+use mathlib.Core.Path.{_≡_, refl, sym, ap, _∙_}
+use mathlib.Core.Bool.{Bool, true, false, not, _&&_, _||_, true≢false}
+use mathlib.Core.List.{List, [], _∷_, _++_}
+use Prim.Native.Nat.{ℕ, zero, suc, _+_, _-_, _≤_, _<_}
+use native.Mathlib.Omega.{arith}
+use native.Mathlib.Numerals.{one-add}
+use lib.ListN.{length, getD, set, take, drop}
+use lib.Seq.{take-at, drop-at}
+use lib.Dec.{ltb}
+use borrow.Author.Tests.{le-ltb, ltb-false}
+use Rattle.cells.specs.Cells.{part, cell, zeros}
+use Rattle.cells.specs.Tests.{allZero, someCell}
+use Rattle.cells.proofs.CellsLaws.{length-zeros}
+use Rattle.cells.proofs.TestsLaws.{or-left, or-right, neither, none-then, then-none, allZero-zeros, allZero-eq}
+use Rattle.rules.specs.declared.Namespace.{Namespace}
+use Rattle.rules.specs.declared.Tag.{Tag}
+use Rattle.rules.specs.Numbers.{poolSlots, tagsMost, uidMost, slotWidth, slotPlaces}
+use Rattle.rules.specs.State.{State, tagAbove, total}
+use Rattle.rules.specs.Slots.{placeOf, namespaceAt, tagAt, slot, padded, slotBytes, emptied, uidLength, empty, loaded}
+use Rattle.rules.specs.Sound.{someAbove, afterUid, slotUnsound, unsound}
+use Rattle.rules.specs.Promises.{IsSlot}
+use Rattle.rules.proofs.FramesLaws.{FitKey}
+use Rattle.rules.proofs.SlotsLaws.{place-small, slot-at, place-at, namespace-back, tag-back, uid-length, loaded-stored}
+
+-- ------------------------------------------------------------------------
+-- Counts
+
+pub above-none : (most : ℕ) (xs : List ℕ) → someAbove most xs ≡ false → (i : ℕ) → getD xs i 0 ≤ most
+unfolding someAbove
+above-none most [] e zero = omega arith
+above-none most [] e (suc i) = omega arith
+above-none most (x ∷ xs) e zero = ltb-false most x (or-left (ltb most x) _ e)
+above-none most (x ∷ xs) e (suc i) = above-none most xs (or-right (ltb most x) _ e) i
+
+pub above-set : (most : ℕ) (xs : List ℕ) (i v : ℕ) → someAbove most xs ≡ false → v ≤ most → someAbove most (set xs i v) ≡ false
+unfolding someAbove
+above-set most [] zero v e h = refl
+above-set most [] (suc i) v e h = refl
+above-set most (x ∷ xs) zero v e h = neither _ _ (le-ltb most v h) (or-right (ltb most x) _ e)
+above-set most (x ∷ xs) (suc i) v e h = neither (ltb most x) _ (or-left (ltb most x) _ e) (above-set most xs i v (or-right (ltb most x) _ e) h)
+
+-- ------------------------------------------------------------------------
+-- A slot's bytes
+
+pub sound-emptied : (unallocated : Bool) → slotUnsound unallocated emptied ≡ false
+unfolding slotUnsound allZero zeros
+sound-emptied true = refl
+sound-emptied false = refl
+
+pad-stored : (uid key : List ℕ) → FitKey uid key → afterUid (slotBytes uid key) ≡ zeros (uidMost - length uid)
+unfolding slotBytes padded part
+pad-stored uid key fit =
+    let z : List ℕ = zeros (uidMost - length uid) in
+    ap (take (uidMost - length uid))
+    (rw one-add (ap (drop (length uid)) (mathlib.Core.List.append-assoc uid z key) ∙ drop-at uid (z ++ key) (length uid) refl))
+    ∙ take-at z key (uidMost - length uid) (length-zeros _)
+
+passes : (e a b z : Bool) → e ≡ false → a ≡ false → b ≡ true → not e && false || not e && a || not e && not b || e && z ≡ false
+passes e a b z p q r = rw (p, q, r)
+
+pub sound-stored : (uid key : List ℕ) → FitKey uid key → slotUnsound false (slotBytes uid key) ≡ false
+unfolding slotUnsound
+sound-stored uid key fit =
+    passes (empty (slotBytes uid key)) _ _ _
+    (loaded-stored uid key fit)
+    (rw (uid-length uid key fit) (le-ltb uidMost (length uid) (fit .short)))
+    (ap allZero (pad-stored uid key fit) ∙ allZero-zeros _)
+
+neither-not : (a b : Bool) → a && not b ≡ false → a ≡ true → b ≡ true
+neither-not true true e p = refl
+neither-not true false e p = absurd (true≢false e)
+neither-not false b e p = absurd (true≢false (sym p))
+
+not-and-true : (e : Bool) → not e && true ≡ false → e ≡ true
+not-and-true true p = refl
+not-and-true false p = absurd (true≢false p)
+
+module _ (c : List ℕ) where
+  unallocated-empty : slotUnsound true c ≡ false → empty c ≡ true
+  unfolding slotUnsound
+  unallocated-empty e = not-and-true (empty c) (or-left (loaded c && true) _ (or-left _ (loaded c && not (allZero (afterUid c))) (or-left _ (empty c && not (allZero c)) e)))
+
+  pub empty-zero : (unallocated : Bool) → slotUnsound unallocated c ≡ false → empty c ≡ true → length c ≡ slotWidth → c ≡ emptied
+  unfolding slotUnsound
+  empty-zero u e p l = allZero-eq c slotWidth l (neither-not (empty c) (allZero c) (or-right (loaded c && u || loaded c && ltb uidMost (uidLength c) || loaded c && not (allZero (afterUid c))) _ e) p)
+
+  pub unallocated-zero : slotUnsound true c ≡ false → length c ≡ slotWidth → c ≡ emptied
+  unallocated-zero e l = empty-zero true e (unallocated-empty e) l
+
+-- ------------------------------------------------------------------------
+-- The whole state
+
+module _ (s : State) where
+  abbrev test : ℕ → List ℕ → Bool
+  test place c = slotUnsound (tagAbove s (namespaceAt place) (tagAt place)) c
+
+  abbrev someSlot : Bool
+  someSlot = someCell slotWidth 0 slotPlaces test (s .keys)
+
+  test-at : (ns : Namespace) (tag : Tag) → IsSlot ns tag → (c : List ℕ) → test (placeOf ns tag) c ≡ slotUnsound (tagAbove s ns tag) c
+  test-at ns tag is c =
+      ap (λ n. slotUnsound (tagAbove s n (tagAt (placeOf ns tag))) c) (namespace-back ns tag is)
+      ∙ ap (λ t. slotUnsound (tagAbove s ns t) c) (tag-back ns tag is)
+
+  module _ (sound : unsound s ≡ false) where
+    in-order : someAbove tagsMost (s .drive .counts) || ltb poolSlots (total (s .drive .counts)) || someSlot ≡ false
+    unfolding unsound
+    in-order = sound
+
+    counts-first : someAbove tagsMost (s .drive .counts) || ltb poolSlots (total (s .drive .counts)) ≡ false
+    counts-first = or-left _ someSlot in-order
+
+    pub sound-counts : someAbove tagsMost (s .drive .counts) ≡ false
+    sound-counts = or-left _ (ltb poolSlots (total (s .drive .counts))) counts-first
+
+    pub sound-total : total (s .drive .counts) ≤ poolSlots
+    sound-total = ltb-false poolSlots _ (or-right (someAbove tagsMost (s .drive .counts)) _ counts-first)
+
+    pub sound-slot : (ns : Namespace) (tag : Tag) → IsSlot ns tag → slotUnsound (tagAbove s ns tag) (slot s ns tag) ≡ false
+    sound-slot ns tag is =
+        let none = or-right (someAbove tagsMost (s .drive .counts) || ltb poolSlots (total (s .drive .counts))) someSlot in-order in
+        let z : 0 + placeOf ns tag ≡ placeOf ns tag = omega arith in
+        sym (test-at ns tag is (slot s ns tag))
+        ∙ (rw z at (none-then slotWidth test slotPlaces 0 (s .keys) none (placeOf ns tag) (place-small ns tag is)))
+
+  pub sound-from : someAbove tagsMost (s .drive .counts) ≡ false → total (s .drive .counts) ≤ poolSlots
+      → ((ns : Namespace) (tag : Tag) → IsSlot ns tag → slotUnsound (tagAbove s ns tag) (slot s ns tag) ≡ false)
+      → unsound s ≡ false
+  unfolding unsound
+  sound-from a t h =
+      let each : (k : ℕ) → k < slotPlaces → test k (cell slotWidth k (s .keys)) ≡ false =
+      (λ k l. ap (λ i. test k (cell slotWidth i (s .keys))) (sym (place-at k)) ∙ h (namespaceAt k) (tagAt k) (slot-at k l)) in
+      let z : (k : ℕ) → 0 + k ≡ k = (λ k. omega arith) in
+      let none = then-none slotWidth test slotPlaces 0 (s .keys) (λ k l. rw (z k) (each k l)) in
+      neither _ someSlot (neither _ _ a (le-ltb poolSlots _ t)) none

@@ -1,0 +1,47 @@
+-- One call for one line: 07 0F, 07 0D, 07 0E, then the line. The first three
+-- write nothing; any other answer writes its line, and the output past it stays.
+-- Assumes nothing.
+use mathlib.Core.Bool.{not}
+use mathlib.Core.List.{List, [], _∷_, _++_}
+use Prim.Native.Nat.{ℕ}
+use lib.ListN.{length, drop}
+use lib.Dec.{eqb, ltb}
+use Rattle.rules.specs.declared.Refusal.{Refusal}
+use Rattle.rules.specs.declared.Answer.{Answer}
+use Rattle.rules.specs.declared.Answer.the-variants.{Refused}
+use Rattle.rules.specs.Numbers.{answerMost, storeSize}
+use Rattle.rules.specs.Checks.{Check, _when_, judged}
+use Rattle.rules.specs.Answers.{answerLine, 07·0D, 07·0E, 07·0F}
+use Rattle.rules.specs.State.{State}
+use Rattle.rules.specs.Sound.{unsound}
+use Rattle.rules.specs.Order.{step}
+
+-- the output bytes that a line's answer may need
+abbrev pub roomFor : List ℕ → ℕ
+roomFor line = answerMost
+
+abbrev pub callChecks : State → ℕ → List ℕ → List (Check Refusal)
+callChecks s room out =
+    07·0F when ltb (length out) room
+    ∷ 07·0D when not (eqb (length (s .marks)) storeSize)
+    ∷ 07·0E when unsound s
+    ∷ []
+
+-- a text at the front of the output, the rest as it was
+abbrev pub written : List ℕ → List ℕ → List ℕ
+written text out = text ++ drop (length text) out
+
+-- all that a call leaves
+pub record Called : Type 0 where
+  pub answer : Answer
+  pub state : State
+  pub bytes : ℕ
+  pub out : List ℕ
+
+unfoldable pub call : State → List ℕ → List ℕ → Called
+call s line out =
+    let o = step s line in
+    let text = answerLine (o .answer) in
+    judged (callChecks s (roomFor line) out)
+    (λ r. record { answer = Refused r; state = s; bytes = 0; out = out })
+    (record { answer = o .answer; state = o .state; bytes = length text; out = written text out })

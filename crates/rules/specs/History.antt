@@ -1,0 +1,121 @@
+-- The history of demand 3: lines with the answers given, newest first, searched
+-- backward by plain recursion. Nothing here runs the drive.
+-- Assumes nothing.
+use mathlib.Core.Bool.{Bool, false, _&&_, cond}
+use mathlib.Core.List.{List, [], _∷_}
+use Prim.Native.Nat.{ℕ, zero, suc, _+_}
+use lib.Dec.{leb}
+use Rattle.rules.specs.declared.Namespace.{Namespace}
+use Rattle.rules.specs.declared.Tag.{Tag}
+use Rattle.rules.specs.declared.Answer.{Answer}
+use Rattle.rules.specs.Answers.{accepted}
+use Rattle.rules.specs.State.{namespace, sameNamespace, sameTag}
+use Rattle.rules.specs.Slots.{Held, nothing, holding}
+use Rattle.rules.specs.Frames.{Command, Frame, manage, release, load, replace, clearOne, clearAll, io, setFeatures, getFeatures, bootWrite, reset, unknown}
+use Rattle.rules.specs.Order.{frameOf, isWrite, isPowerCycle}
+
+pub record Event : Type 0 where
+  pub line : List ℕ
+  pub answer : Answer
+
+abbrev pub frameIn : Event → Frame
+frameIn e = frameOf (e .line)
+
+-- ------------------------------------------------------------------------
+-- What a slot holds
+
+-- A slot is touched by load, replace and clear one of its namespace and tag, by manage, clear all and release of its namespace, and by a power cycle.
+abbrev pub touches : Namespace → Tag → Frame → Bool
+touches ns tag (manage n tags) = sameNamespace ns n
+touches ns tag (release n) = sameNamespace ns n
+touches ns tag (load n t uid key) = sameNamespace ns n && sameTag tag t
+touches ns tag (replace n t old uid key) = sameNamespace ns n && sameTag tag t
+touches ns tag (clearOne n t) = sameNamespace ns n && sameTag tag t
+touches ns tag (clearAll n) = sameNamespace ns n
+touches ns tag (io c) = false
+touches ns tag (setFeatures dword11) = false
+touches ns tag getFeatures = false
+touches ns tag (bootWrite partition) = false
+touches ns tag (reset level) = isPowerCycle level
+touches ns tag unknown = false
+
+-- what a touched slot then holds: a load and a replace put a key there, the others leave none
+abbrev pub leaves : Frame → Held
+leaves (manage n tags) = nothing
+leaves (release n) = nothing
+leaves (load n t uid key) = holding uid key
+leaves (replace n t old uid key) = holding uid key
+leaves (clearOne n t) = nothing
+leaves (clearAll n) = nothing
+leaves (io c) = nothing
+leaves (setFeatures dword11) = nothing
+leaves getFeatures = nothing
+leaves (bootWrite partition) = nothing
+leaves (reset level) = nothing
+leaves unknown = nothing
+
+-- as the last accepted frame that touched the slot says
+unfoldable pub holds : Namespace → Tag → List Event → Held
+holds ns tag [] = nothing
+holds ns tag (e ∷ older) =
+    cond (accepted (e .answer) && touches ns tag (frameIn e))
+    (leaves (frameIn e))
+    (holds ns tag older)
+
+-- ------------------------------------------------------------------------
+-- What a block was last written under, since its namespace was last managed:
+-- the key that the slot of the latest accepted write held then
+
+abbrev pub covers : Command → ℕ → Bool
+covers c block = leb (c .first) block && leb block (c .first + c .more)
+
+-- after an accepted frame, with the history before it, and what the block was last written under before it
+abbrev pub writtenAfter : Namespace → ℕ → Frame → List Event → Held → Held
+writtenAfter ns block (manage n tags) older before = cond (sameNamespace ns n) nothing before
+writtenAfter ns block (release n) older before = before
+writtenAfter ns block (load n t uid key) older before = before
+writtenAfter ns block (replace n t old uid key) older before = before
+writtenAfter ns block (clearOne n t) older before = before
+writtenAfter ns block (clearAll n) older before = before
+writtenAfter ns block (io c) older before = cond (isWrite c && sameNamespace ns (c .ns) && covers c block) (holds ns (c .tag) older) before
+writtenAfter ns block (setFeatures dword11) older before = before
+writtenAfter ns block getFeatures older before = before
+writtenAfter ns block (bootWrite partition) older before = before
+writtenAfter ns block (reset level) older before = before
+writtenAfter ns block unknown older before = before
+
+unfoldable pub lastWritten : Namespace → ℕ → List Event → Held
+lastWritten ns block [] = nothing
+lastWritten ns block (e ∷ older) =
+    cond (accepted (e .answer))
+    (writtenAfter ns block (frameIn e) older (lastWritten ns block older))
+    (lastWritten ns block older)
+
+-- ------------------------------------------------------------------------
+-- A namespace's count: that of its last accepted manage not since released
+
+abbrev pub countAfter : Namespace → Frame → ℕ → ℕ
+countAfter ns (manage n tags) before = cond (sameNamespace ns n) tags before
+countAfter ns (release n) before = cond (sameNamespace ns n) 0 before
+countAfter ns (load n t uid key) before = before
+countAfter ns (replace n t old uid key) before = before
+countAfter ns (clearOne n t) before = before
+countAfter ns (clearAll n) before = before
+countAfter ns (io c) before = before
+countAfter ns (setFeatures dword11) before = before
+countAfter ns getFeatures before = before
+countAfter ns (bootWrite partition) before = before
+countAfter ns (reset level) before = before
+countAfter ns unknown before = before
+
+unfoldable pub tagCount : Namespace → List Event → ℕ
+tagCount ns [] = 0
+tagCount ns (e ∷ older) =
+    cond (accepted (e .answer))
+    (countAfter ns (frameIn e) (tagCount ns older))
+    (tagCount ns older)
+
+-- the tag counts of namespaces 1 to n together
+unfoldable pub tagCounts : ℕ → List Event → ℕ
+tagCounts zero h = 0
+tagCounts (suc n) h = tagCounts n h + tagCount (namespace (suc n)) h

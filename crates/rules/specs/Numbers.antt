@@ -1,0 +1,60 @@
+-- "The drive's numbers". Each stands here once; what follows from them is
+-- computed from them.
+-- Assumes nothing.
+use Prim.Native.Nat.{ℕ, _+_, _*_, _/_}
+
+-- namespaces 1 to 4, 256 blocks each
+abbrev pub namespaces : ℕ
+namespaces = 4
+
+abbrev pub blocksEach : ℕ
+blocksEach = 256
+
+-- 64 slots in one pool; a managed namespace holds 1 to 32 of them
+abbrev pub poolSlots : ℕ
+poolSlots = 64
+
+abbrev pub tagsMost : ℕ
+tagsMost = 32
+
+-- KeyUID: 1 to 16 bytes. Key: exactly 32 bytes.
+abbrev pub uidMost : ℕ
+uidMost = 16
+
+abbrev pub keySize : ℕ
+keySize = 32
+
+-- a slot: the KeyUID's length, the KeyUID padded with zeros, the key
+abbrev pub slotWidth : ℕ
+slotWidth = 1 + uidMost + keySize
+
+-- a mark: the KeyUID's length, then its first 8 bytes, padded with zeros
+abbrev pub identityMost : ℕ
+identityMost = 8
+
+abbrev pub markWidth : ℕ
+markWidth = 1 + identityMost
+
+-- a place for each tag that a namespace may hold, though the pool never fills them all
+abbrev pub slotPlaces : ℕ
+slotPlaces = namespaces * tagsMost
+
+abbrev pub cacheSize : ℕ
+cacheSize = slotPlaces * slotWidth
+
+abbrev pub markPlaces : ℕ
+markPlaces = namespaces * blocksEach
+
+abbrev pub storeSize : ℕ
+storeSize = markPlaces * markWidth
+
+-- a line is 2 to 140 digits
+abbrev pub digitsMost : ℕ
+digitsMost = 140
+
+abbrev pub frameMost : ℕ
+frameMost = digitsMost / 2
+
+-- an answer line has at most 13 bytes
+abbrev pub answerMost : ℕ
+answerMost = 13

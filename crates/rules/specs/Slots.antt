@@ -1,0 +1,75 @@
+-- Slots of the key cache: where each stands, its bytes, what it holds, and the
+-- search for an equal KeyUID with another key.
+-- Assumes nothing.
+use mathlib.Core.Bool.{Bool, not, _&&_, cond}
+use mathlib.Core.List.{List, _∷_, _++_}
+use Prim.Native.Nat.{ℕ, _+_, _-_, _*_, _/_, _%_}
+use lib.ListN.{length, getD}
+use lib.Dec.{eqb}
+use Rattle.cells.specs.Cells.{part, cell, zeros}
+use Rattle.cells.specs.Tests.{same, someCell}
+use Rattle.rules.specs.declared.Namespace.{Namespace}
+use Rattle.rules.specs.declared.Tag.{Tag}
+use Rattle.rules.specs.Numbers.{tagsMost, uidMost, keySize, slotWidth, slotPlaces}
+use Rattle.rules.specs.State.{State, namespace, keyTag}
+
+-- the place of a namespace and a tag, and which two a place has
+abbrev pub placeOf : Namespace → Tag → ℕ
+placeOf ns tag = (ns .0 - 1) * tagsMost + tag .0
+
+abbrev pub namespaceAt : ℕ → Namespace
+namespaceAt i = namespace (i / tagsMost + 1)
+
+abbrev pub tagAt : ℕ → Tag
+tagAt i = keyTag (i % tagsMost)
+
+abbrev pub slot : State → Namespace → Tag → List ℕ
+slot s ns tag = cell slotWidth (placeOf ns tag) (s .keys)
+
+-- ------------------------------------------------------------------------
+-- A slot's bytes: the KeyUID's length, 0 for an empty slot; the KeyUID, padded
+-- with zeros to 16; the key
+
+unfoldable pub padded : ℕ → List ℕ → List ℕ
+padded n xs = xs ++ zeros (n - length xs)
+
+unfoldable pub slotBytes : List ℕ → List ℕ → List ℕ
+slotBytes uid key = length uid ∷ (padded uidMost uid ++ key)
+
+-- an emptied slot is all zero bytes
+abbrev pub emptied : List ℕ
+emptied = zeros slotWidth
+
+abbrev pub uidLength : List ℕ → ℕ
+uidLength c = getD c 0 0
+
+abbrev pub empty : List ℕ → Bool
+empty c = eqb (uidLength c) 0
+
+abbrev pub loaded : List ℕ → Bool
+loaded c = not (empty c)
+
+unfoldable pub uidOf : List ℕ → List ℕ
+uidOf c = part 1 (uidLength c) c
+
+unfoldable pub keyOf : List ℕ → List ℕ
+keyOf c = part (1 + uidMost) keySize c
+
+-- ------------------------------------------------------------------------
+-- What a slot holds
+
+pub data Held : Type 0 where
+  nothing : Held
+  holding : (uid key : List ℕ) → Held
+
+unfoldable pub held : List ℕ → Held
+held c = cond (empty c) nothing (holding (uidOf c) (keyOf c))
+
+-- ------------------------------------------------------------------------
+-- 07 0C: a loaded slot of any namespace has this KeyUID and another key
+
+unfoldable pub otherKeyIn : List ℕ → List ℕ → List ℕ → Bool
+otherKeyIn uid key c = loaded c && same (uidOf c) uid && not (same (keyOf c) key)
+
+unfoldable pub otherKey : State → List ℕ → List ℕ → Bool
+otherKey s uid key = someCell slotWidth 0 slotPlaces (λ place c. otherKeyIn uid key c) (s .keys)
