@@ -4,13 +4,17 @@
 -- Assumes nothing.
 use mathlib.Core.Path.{_≡_, refl, sym, ap, _∙_}
 use mathlib.Core.Logic.{_⊎_, ⊎-elim, by-cases}
-use mathlib.Core.List.{List, [], _∷_, _++_}
+use mathlib.Core.List.{List, [], _∷_, _++_, append-nil, append-assoc}
 use Prim.Native.Nat.{ℕ, zero, suc, _+_, _*_, _-_, _≤_, _<_}
 use native.Mathlib.Nat.{mul-le-mul-right, add-mul, suc-mul, zero-mul, add-comm, add-zero}
 use native.Mathlib.Decide.{decLt}
 use native.Mathlib.Omega.{arith}
-use lib.ListN.{length, take, drop, getD, length-append, length-drop, take-append-drop, length-replicate, getD-replicate, replicate-append-replicate}
-use lib.Seq.{take-length, length-take-le, take-at, drop-at, take-append-le, drop-append-le, drop-drop, take-take, ext-getD, getD-take, getD-drop}
+use native.Mathlib.Numerals.{add-one}
+use lib.ListN.{length, take, drop, getD, set, replicate, length-append, length-drop, take-append-drop, length-replicate, getD-replicate, replicate-append-replicate, drop-of-length-le}
+use lib.Dec.{eqb}
+use borrow.Author.Tests.{eq-eqb}
+use mathlib.Core.Bool.{cond}
+use lib.Seq.{take-length, drop-length, length-take-le, take-at, drop-at, take-append-le, drop-append-le, drop-drop, take-take, ext-getD, getD-take, getD-drop, drop-cons, take-suc, set-at, append-snoc, take-nil, take-all}
 use Rattle.cells.specs.Cells.{part, write, zeros, copies, cell, put, fill}
 
 -- ------------------------------------------------------------------------
@@ -36,6 +40,11 @@ part-front b m a xs l h =
 pub part-part : (a n b m : ℕ) (xs : List ℕ) → a + n ≤ length xs → b + m ≤ n → part b m (part a n xs) ≡ part (a + b) m xs
 unfolding part
 part-part a n b m xs l h = sym (part-front b m n (drop a xs) (simp length-drop (omega arith)) h) ∙ ap (take m) (drop-drop b a xs)
+
+-- two parts that both reach the end
+pub part-end : (a n m : ℕ) (xs : List ℕ) → length xs ≤ a + n → length xs ≤ a + m → part a n xs ≡ part a m xs
+unfolding part
+part-end a n m xs h k = take-all n (drop a xs) (simp length-drop (omega arith)) ∙ sym (take-all m (drop a xs) (simp length-drop (omega arith)))
 
 -- ------------------------------------------------------------------------
 -- Writes: what was written, and that all else stays
@@ -157,6 +166,14 @@ pub part-cell : (w i b m : ℕ) (xs : List ℕ) → i * w + w ≤ length xs → 
 unfolding cell
 part-cell w i b m xs l h = part-part (i * w) w b m xs l h
 
+-- the first byte of a cell, and a cell past the end
+pub first-cell : (w i : ℕ) (xs : List ℕ) → 0 < w → getD (cell w i xs) 0 0 ≡ getD xs (i * w) 0
+first-cell w i xs h = getD-cell w i 0 xs h ∙ (rw add-zero)
+
+pub cell-past : (w i : ℕ) (xs : List ℕ) → length xs ≤ i * w → cell w i xs ≡ []
+unfolding cell part
+cell-past w i xs h = ap (take w) (drop-of-length-le xs h) ∙ take-nil w
+
 pub cell-zeros : (w i n : ℕ) → i * w + w ≤ n → cell w i (zeros n) ≡ zeros w
 unfolding cell
 cell-zeros w i n h = part-zeros (i * w) w n h
@@ -244,3 +261,98 @@ module _ (w i n : ℕ) (v xs : List ℕ) (fits : (i + n) * w ≤ length xs) (ful
       (λ lt. part-write-before (i * w) (n * w) (copies n v) xs room (length-copies w n v full) (j * w) w (apart w j i lt))
       (λ ge. part-write-after (i * w) (n * w) (copies n v) xs room (length-copies w n v full) (j * w) w (omega (arith, cell-at w i n, mul-le-mul-right w ge)))
       o
+
+-- a run grows by the next cell
+write-end : (a n : ℕ) (v xs : List ℕ) → a + n ≤ length xs → length v ≡ n → take (a + n) (write a n v xs) ≡ take a xs ++ v
+unfolding write
+write-end a n v xs fits full =
+    ap (take (a + n)) (sym (append-assoc (take a xs) v (drop n (drop a xs))))
+    ∙ take-at (take a xs ++ v) (drop n (drop a xs)) (a + n) (simp length-append (omega (arith, length-take-le a xs (omega arith))))
+
+write-join : (a m n : ℕ) (u v xs : List ℕ) → a + (m + n) ≤ length xs → length u ≡ m → length v ≡ n
+    → write (a + m) n v (write a m u xs) ≡ write a (m + n) (u ++ v) xs
+unfolding write
+write-join a m n u v xs fits fu fv =
+    let d : drop n (drop (a + m) (write a m u xs)) ≡ drop (m + n) (drop a xs) =
+    ap (drop n) (drop-write a m u xs (omega arith) fu (a + m) (omega arith)) ∙ ap (drop n) (sym (drop-drop m a xs)) ∙ drop-drop n m (drop a xs) in
+    ap (λ t. t ++ (v ++ drop n (drop (a + m) (write a m u xs)))) (write-end a m u xs (omega arith) fu)
+    ∙ ap (λ t. (take a xs ++ u) ++ (v ++ t)) d
+    ∙ append-assoc (take a xs) u (v ++ drop (m + n) (drop a xs))
+    ∙ ap (λ t. take a xs ++ t) (sym (append-assoc u v (drop (m + n) (drop a xs))))
+
+copies-more : (n : ℕ) (v : List ℕ) → copies n v ++ v ≡ copies (suc n) v
+unfolding copies
+copies-more zero v = sym (append-nil v)
+copies-more (suc n) v = append-assoc v (copies n v) v ∙ ap (λ z. v ++ z) (copies-more n v)
+
+pub fill-none : (w i : ℕ) (v xs : List ℕ) → fill w i 0 v xs ≡ xs
+unfolding fill write copies
+fill-none w i v xs = rw zero-mul (take-append-drop (i * w) xs)
+
+pub fill-next : (w i n : ℕ) (v xs : List ℕ) → (i + (n + 1)) * w ≤ length xs → length v ≡ w → put w (i + n) v (fill w i n v xs) ≡ fill w i (n + 1) v xs
+unfolding put fill
+fill-next w i n v xs fits full =
+    let e : (n + 1) * w ≡ n * w + w = ap (λ k. k * w) (add-one n) ∙ suc-mul n w in
+    let r : i * w + (n * w + w) ≤ length xs = omega (arith, cell-at w i (n + 1)) in
+    ap (λ k. write k w v (write (i * w) (n * w) (copies n v) xs)) (cell-at w i n)
+    ∙ write-join (i * w) (n * w) w (copies n v) v xs r (length-copies w n v full) full
+    ∙ ap (λ z. write (i * w) (n * w + w) z xs) (copies-more n v ∙ ap (λ k. copies k v) (sym (add-one n)))
+    ∙ ap (λ k. write (i * w) k (copies (n + 1) v) xs) (sym e)
+
+-- ------------------------------------------------------------------------
+-- Loops that write from the front: p is done, and v comes next
+
+pub grow : (p d : List ℕ) (n v : ℕ) → length p ≡ n → n < length d → set (p ++ drop n d) n v ≡ (p ++ (v ∷ [])) ++ drop (n + 1) d
+grow p d n v e h = rw (drop-cons d n 0 h, add-one) (set-at p _ _ v n e ∙ sym (append-snoc p v _))
+
+pub fill-end : (d : List ℕ) (n : ℕ) → n ≡ length d → replicate n 0 ++ drop n d ≡ zeros (length d)
+unfolding zeros
+fill-end d n e = rw (e, drop-length, append-nil)
+
+pub copy-more : (d s : List ℕ) (n : ℕ) → n < length s → n < length d → set (take n s ++ drop n d) n (getD s n 0) ≡ take (n + 1) s ++ drop (n + 1) d
+copy-more d s n h k = grow (take n s) d n (getD s n 0) (length-take-le n s (omega arith)) k ∙ (rw (add-one, take-suc s n 0 h))
+
+pub copy-end : (d s : List ℕ) (n : ℕ) → n ≡ length s → length d ≡ length s → take n s ++ drop n d ≡ s
+copy-end d s n e f = rw (e, take-length, ← f, drop-length, append-nil)
+
+-- ------------------------------------------------------------------------
+-- A part that is lent, from a to a + n, and what the whole is when it comes back
+
+pub lent-length : (a n : ℕ) (xs : List ℕ) → a + n ≤ length xs → length (take (a + n - a) (drop a xs)) ≡ n
+lent-length a n xs h = let e : a + n - a ≡ n = omega arith in rw e (length-take-le n (drop a xs) (simp length-drop (omega arith)))
+
+pub lent-length-to : (a e : ℕ) (xs : List ℕ) → e ≤ length xs → length (take (e - a) (drop a xs)) ≡ e - a
+lent-length-to a e xs h = length-take-le (e - a) (drop a xs) (simp length-drop (omega arith))
+
+-- what `copy` leaves in a part as long as src
+pub copied : (a e : ℕ) (xs src : List ℕ) → e ≤ length xs → e - a ≡ length src
+    → cond (eqb (length (take (e - a) (drop a xs))) (length src)) src (take (e - a) (drop a xs)) ≡ src
+copied a e xs src h l = rw (eq-eqb _ _ (lent-length-to a e xs h ∙ l))
+
+pub lent-is : (a n : ℕ) (xs : List ℕ) → take (a + n - a) (drop a xs) ≡ part a n xs
+unfolding part
+lent-is a n xs = let e : a + n - a ≡ n = omega arith in rw e
+
+pub lent-cell : (w i : ℕ) (xs : List ℕ) → take (i * w + w - i * w) (drop (i * w) xs) ≡ cell w i xs
+unfolding cell
+lent-cell w i xs = lent-is (i * w) w xs
+
+pub back : (a n : ℕ) (ys xs : List ℕ) → take a xs ++ (ys ++ drop (a + n - a) (drop a xs)) ≡ write a n ys xs
+unfolding write
+back a n ys xs = let e : a + n - a ≡ n = omega arith in rw e
+
+pub back-put : (w i : ℕ) (ys xs : List ℕ) → take (i * w) xs ++ (ys ++ drop (i * w + w - i * w) (drop (i * w) xs)) ≡ put w i ys xs
+unfolding put
+back-put w i ys xs = back (i * w) w ys xs
+
+-- a run of zero cells comes back from one fill
+pub back-zeros : (w i n : ℕ) (xs : List ℕ) → take (i * w) xs ++ (zeros (n * w) ++ drop (i * w + n * w - i * w) (drop (i * w) xs)) ≡ fill w i n (zeros w) xs
+unfolding fill
+back-zeros w i n xs = back (i * w) (n * w) (zeros (n * w)) xs ∙ ap (λ v. write (i * w) (n * w) v xs) (sym (copies-zeros w n))
+
+-- a list filled from the front by lending part after part: p is done up to k, and v fills the part from k to e
+pub push : (p d v : List ℕ) (k e : ℕ) → length p ≡ k → k ≤ e
+    → take k (p ++ drop k d) ++ (v ++ drop (e - k) (drop k (p ++ drop k d))) ≡ (p ++ v) ++ drop e d
+push p d v k e l h =
+    let q : k + (e - k) ≡ e = omega arith in
+    (rw (take-at p (drop k d) k l, drop-at p (drop k d) k l, drop-drop, q)) ∙ sym (append-assoc p v (drop e d))

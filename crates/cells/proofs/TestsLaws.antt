@@ -4,13 +4,16 @@
 use mathlib.Core.Path.{_≡_, refl, sym, _∙_}
 use mathlib.Core.Bool.{Bool, true, false, _&&_, _||_, true≢false}
 use mathlib.Core.List.{List, [], _∷_}
-use Prim.Native.Nat.{ℕ, zero, suc, _+_, _*_, _<_}
+use Prim.Native.Nat.{_-_, ℕ, zero, suc, _+_, _*_, _<_, _≤_}
 use native.Mathlib.Nat.{suc-mul, add-zero}
 use native.Mathlib.Omega.{arith}
-use lib.ListN.{take, drop}
-use lib.Seq.{drop-drop}
+use native.Mathlib.Decide.{decLt}
+use native.Mathlib.Numerals.{add-one}
+use mathlib.Core.Logic.{by-cases}
+use lib.ListN.{length, getD, take, drop, drop-of-length-le}
+use lib.Seq.{drop-drop, drop-cons}
 use lib.Dec.{eqb}
-use borrow.Author.Tests.{eq-eqb, eqb-true}
+use borrow.Author.Tests.{eq-eqb, ne-eqb, eqb-true}
 use Rattle.cells.specs.Cells.{part, cell, zeros}
 use Rattle.cells.specs.Tests.{same, allZero, someFrom, someCell}
 
@@ -59,7 +62,7 @@ unfolding allZero zeros
 allZero-zeros zero = refl
 allZero-zeros (suc n) = allZero-zeros n
 
-pub allZero-eq : (xs : List ℕ) (n : ℕ) → lib.ListN.length xs ≡ n → allZero xs ≡ true → xs ≡ zeros n
+pub allZero-eq : (xs : List ℕ) (n : ℕ) → length xs ≡ n → allZero xs ≡ true → xs ≡ zeros n
 unfolding allZero zeros
 allZero-eq [] zero l e = refl
 allZero-eq [] (suc n) l e = absurd (omega arith)
@@ -99,6 +102,55 @@ module _ (w : ℕ) (f : ℕ → List ℕ → Bool) where
       let b : someCell w (suc i) n f xs ≡ false = then-none n (suc i) xs (λ k l. rw (← s k) (h (suc k) (omega arith))) in
       neither _ _ a (rw (on i xs) b)
 
+pub false-or-true : (b : Bool) → (b ≡ false → ⊥) → b ≡ true
+false-or-true true n = refl
+false-or-true false n = absurd (n refl)
+
 pub true-or-false : (b : Bool) → (b ≡ true → ⊥) → b ≡ false
 true-or-false true n = absurd (n refl)
 true-or-false false n = refl
+
+-- ------------------------------------------------------------------------
+-- Loops that compare, or test every byte: a turn, and the end
+
+pub same-next : (xs ys : List ℕ) (i : ℕ) → i < length xs → i < length ys → getD xs i 0 ≡ getD ys i 0
+    → same (drop (i + 1) xs) (drop (i + 1) ys) ≡ same (drop i xs) (drop i ys)
+unfolding same
+same-next xs ys i h k e = rw (drop-cons xs i 0 h, drop-cons ys i 0 k, eq-eqb _ _ e, add-one)
+
+pub same-end : (xs ys : List ℕ) (i : ℕ) → length xs ≤ i → length ys ≤ i → same (drop i xs) (drop i ys) ≡ true
+unfolding same
+same-end xs ys i h k = rw (drop-of-length-le xs h, drop-of-length-le ys k)
+
+pub to-false : (b : Bool) → (b ≡ true → ⊥) → false ≡ b
+to-false b n = sym (true-or-false b n)
+
+pub zero-next : (xs : List ℕ) (i : ℕ) → i < length xs → getD xs i 0 ≡ 0 → allZero (drop (i + 1) xs) ≡ allZero (drop i xs)
+unfolding allZero
+zero-next xs i h e = rw (drop-cons xs i 0 h, eq-eqb _ _ e, add-one)
+
+pub zero-here : (xs : List ℕ) (i : ℕ) → i < length xs → (getD xs i 0 ≡ 0 → ⊥) → false ≡ allZero (drop i xs)
+unfolding allZero
+zero-here xs i h n = rw (drop-cons xs i 0 h, ne-eqb _ _ n)
+
+pub zero-end : (xs : List ℕ) (i : ℕ) → length xs ≤ i → true ≡ allZero (drop i xs)
+unfolding allZero
+zero-end xs i h = rw (drop-of-length-le xs h)
+
+-- ------------------------------------------------------------------------
+-- A loop over the cells of a run that stops at the first that is so
+
+module _ (w : ℕ) (f : ℕ → List ℕ → Bool) where
+  pub some-start : (i : ℕ) (xs : List ℕ) → someCell w i 0 f xs ≡ false
+  unfolding someCell someFrom
+  some-start i xs = refl
+
+  -- cell j is the next after n cells from i
+  pub some-next : (i n j : ℕ) (xs : List ℕ) → i + n ≡ j → someCell w i n f xs ≡ false → f j (cell w j xs) ≡ false → someCell w i (n + 1) f xs ≡ false
+  some-next i n j xs at e h =
+      then-none w f (n + 1) i xs (λ k l. by-cases (decLt k n) (λ lt. none-then w f n i xs e k lt) (λ ge. let q : i + k ≡ j = omega arith in rw q h))
+
+  pub some-hit : (i n j : ℕ) (xs : List ℕ) → i ≤ j → j < i + n → f j (cell w j xs) ≡ true → true ≡ someCell w i n f xs
+  some-hit i n j xs lo hi h =
+      let q : i + (j - i) ≡ j = omega arith in
+      sym (false-or-true (someCell w i n f xs) (λ e. true≢false (sym h ∙ (rw q at (none-then w f n i xs e (j - i) (omega arith))))))

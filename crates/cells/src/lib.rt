@@ -1,1 +1,62 @@
-// Runs of equal cells in a list of bytes. specs/ has what a cell is, proofs/ the laws over every width.
+// Byte work that every store needs: fill with zeros, copy, compare. Every function is total.
+ghost use mathlib.Core.Path.{_≡_};
+ghost use mathlib.Core.Bool.{cond};
+ghost use lib.Dec.{eqb};
+ghost use lib.ListN.{length};
+ghost use Rattle.cells.specs.Cells.{zeros};
+ghost use Rattle.cells.specs.Tests.{same, allZero};
+
+pub fn fill_zero(part: &mut [u8])
+    ensures { λ _. ⌜ now (part .exit) ≡ zeros (length (now (part .entry))) ⌝ }
+{
+    let mut i = 0;
+    while i < part.len() {
+        part[i] = 0;
+        i += 1;
+    }
+}
+
+// The bytes of src, in a part as long; a part of another length stays.
+pub fn copy(part: &mut [u8], src: &[u8])
+    ensures { λ _. ⌜ now (part .exit) ≡ cond (eqb (length (now (part .entry))) (length (now (src .entry)))) (now (src .entry)) (now (part .entry)) ⌝ }
+{
+    if part.len() != src.len() {
+        return;
+    }
+    let mut i = 0;
+    while i < src.len() {
+        part[i] = src[i];
+        i += 1;
+    }
+}
+
+// Whether the two are the same, length and bytes; it stops at the first difference.
+pub fn equal(a: &[u8], b: &[u8]) -> bool
+    ensures { λ r. ⌜ r ≡ same (now (a .entry)) (now (b .entry)) ⌝ }
+{
+    if a.len() != b.len() {
+        return false;
+    }
+    let mut i = 0;
+    while i < a.len() {
+        if a[i] != b[i] {
+            return false;
+        }
+        i += 1;
+    }
+    true
+}
+
+// Whether every byte is zero.
+pub fn all_zero(a: &[u8]) -> bool
+    ensures { λ r. ⌜ r ≡ allZero (now (a .entry)) ⌝ }
+{
+    let mut i = 0;
+    while i < a.len() {
+        if a[i] != 0 {
+            return false;
+        }
+        i += 1;
+    }
+    true
+}

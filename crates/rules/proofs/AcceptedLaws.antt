@@ -146,7 +146,7 @@ module _ (s : State) (sized : Sized s) (sound : unsound s ≡ false) where
     -- a key that is put into a slot: it fits, its tag is allocated, and no loaded slot has its KeyUID and another key
     abbrev pub Storable : State → Held → Type 0
     Storable after nothing = Unit {0}
-    Storable after (holding uid key) = FitKey uid key × ((tagAbove after ns tag ≡ false) × (otherKey s uid key ≡ false))
+    Storable after (holding uid key) = FitKey uid key × ((tagAbove after ns tag ≡ false) × (otherKey (s .keys) uid key ≡ false))
 
     same-slot : (n : Namespace) (t : Tag) → sameNamespace ns n && sameTag tag t ≡ true → tagAbove s n t ≡ false → tagAbove s ns tag ≡ false
     same-slot n t e a =

@@ -105,7 +105,7 @@ unfolding otherKeyIn
 same-key uid key c e l u =
     same-eq (keyOf c) key (no-other (loaded c) (same (uidOf c) uid) (same (keyOf c) key) e l (rw u (same-refl uid)))
 
-pub no-other-key : (s : State) (uid key : List ℕ) → otherKey s uid key ≡ false → (ns : Namespace) (tag : Tag) → IsSlot ns tag
+pub no-other-key : (s : State) (uid key : List ℕ) → otherKey (s .keys) uid key ≡ false → (ns : Namespace) (tag : Tag) → IsSlot ns tag
     → otherKeyIn uid key (slot s ns tag) ≡ false
 unfolding otherKey
 no-other-key s uid key e ns tag is =

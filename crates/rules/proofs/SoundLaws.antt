@@ -1,15 +1,15 @@
 -- A sound state slot by slot, and that sound slots make a sound state.
 -- Assumes nothing.
 use mathlib.Core.Path.{_≡_, refl, sym, ap, _∙_}
-use mathlib.Core.Bool.{Bool, true, false, not, _&&_, _||_, true≢false}
+use mathlib.Core.Bool.{or-false, Bool, true, false, not, _&&_, _||_, true≢false}
 use mathlib.Core.List.{List, [], _∷_, _++_}
 use Prim.Native.Nat.{ℕ, zero, suc, _+_, _-_, _≤_, _<_}
 use native.Mathlib.Omega.{arith}
-use native.Mathlib.Numerals.{one-add}
-use lib.ListN.{length, getD, set, take, drop}
-use lib.Seq.{take-at, drop-at}
+use native.Mathlib.Numerals.{one-add, add-one}
+use lib.ListN.{length, getD, set, take, drop, drop-of-length-le}
+use lib.Seq.{take-at, drop-at, drop-cons}
 use lib.Dec.{ltb}
-use borrow.Author.Tests.{le-ltb, ltb-false}
+use borrow.Author.Tests.{lt-ltb, le-ltb, ltb-false}
 use Rattle.cells.specs.Cells.{part, cell, zeros}
 use Rattle.cells.specs.Tests.{allZero, someCell}
 use Rattle.cells.proofs.CellsLaws.{length-zeros}
@@ -33,6 +33,26 @@ above-none most [] e zero = omega arith
 above-none most [] e (suc i) = omega arith
 above-none most (x ∷ xs) e zero = ltb-false most x (or-left (ltb most x) _ e)
 above-none most (x ∷ xs) e (suc i) = above-none most xs (or-right (ltb most x) _ e) i
+
+-- a loop over the counts: one that is too large, one that is not, and the end
+module _ (most : ℕ) (xs : List ℕ) (i : ℕ) where
+  pub above-here : i < length xs → most < getD xs i 0 → true ≡ someAbove most (drop i xs)
+  unfolding someAbove
+  above-here h l = rw (drop-cons xs i 0 h, lt-ltb most (getD xs i 0) l)
+
+  pub above-next : i < length xs → getD xs i 0 ≤ most → someAbove most (drop (i + 1) xs) ≡ someAbove most (drop i xs)
+  unfolding someAbove
+  above-next h l = rw (drop-cons xs i 0 h, le-ltb most (getD xs i 0) l, add-one)
+
+  pub above-end : length xs ≤ i → someAbove most (drop i xs) ≡ false
+  unfolding someAbove
+  above-end h = rw (drop-of-length-le xs h)
+
+  pub total-next : i < length xs → total (drop i xs) ≡ getD xs i 0 + total (drop (i + 1) xs)
+  total-next h = rw (drop-cons xs i 0 h, add-one)
+
+  pub total-end : length xs ≤ i → total (drop i xs) ≡ 0
+  total-end h = rw (drop-of-length-le xs h)
 
 pub above-set : (most : ℕ) (xs : List ℕ) (i v : ℕ) → someAbove most xs ≡ false → v ≤ most → someAbove most (set xs i v) ≡ false
 unfolding someAbove
@@ -88,6 +108,25 @@ module _ (c : List ℕ) where
 
   pub unallocated-zero : slotUnsound true c ≡ false → length c ≡ slotWidth → c ≡ emptied
   unallocated-zero e l = empty-zero true e (unallocated-empty e) l
+
+-- the ways through the test of a slot
+module _ (c : List ℕ) where
+  pub empty-is : (unallocated : Bool) → empty c ≡ true → not (allZero c) ≡ slotUnsound unallocated c
+  unfolding slotUnsound
+  empty-is u e = rw e
+
+  pub unallocated-is : empty c ≡ false → true ≡ slotUnsound true c
+  unfolding slotUnsound
+  unallocated-is e = rw e
+
+  pub long-is : (unallocated : Bool) → empty c ≡ false → uidMost < uidLength c → true ≡ slotUnsound unallocated c
+  unfolding slotUnsound
+  long-is true e h = rw e
+  long-is false e h = rw (e, lt-ltb uidMost (uidLength c) h)
+
+  pub rest-is : empty c ≡ false → uidLength c ≤ uidMost → not (allZero (afterUid c)) ≡ slotUnsound false c
+  unfolding slotUnsound
+  rest-is e h = rw (e, le-ltb uidMost (uidLength c) h) (sym (or-false (not (allZero (afterUid c)))))
 
 -- ------------------------------------------------------------------------
 -- The whole state

@@ -70,7 +70,7 @@ load s ns tag uid key = record {
       ∷ 07·06 when not (managed s ns)
       ∷ 00·25 when tagAbove s ns tag
       ∷ 07·09 when loaded (slot s ns tag)
-      ∷ 07·0C when otherKey s uid key
+      ∷ 07·0C when otherKey (s .keys) uid key
       ∷ [];
   answer = Done;
   effect = storeKey s ns tag uid key;
@@ -85,7 +85,7 @@ replace s ns tag old uid key = record {
       ∷ 00·25 when tagAbove s ns tag
       ∷ 07·0A when empty (slot s ns tag)
       ∷ 07·0B when not (same (uidOf (slot s ns tag)) old)
-      ∷ 07·0C when otherKey s uid key  -- of every loaded slot, this one too
+      ∷ 07·0C when otherKey (s .keys) uid key  -- of every loaded slot, this one too
       ∷ [];
   answer = Done;
   effect = storeKey s ns tag uid key;

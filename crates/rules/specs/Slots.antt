@@ -71,5 +71,5 @@ held c = cond (empty c) nothing (holding (uidOf c) (keyOf c))
 unfoldable pub otherKeyIn : List ℕ → List ℕ → List ℕ → Bool
 otherKeyIn uid key c = loaded c && same (uidOf c) uid && not (same (keyOf c) key)
 
-unfoldable pub otherKey : State → List ℕ → List ℕ → Bool
-otherKey s uid key = someCell slotWidth 0 slotPlaces (λ place c. otherKeyIn uid key c) (s .keys)
+unfoldable pub otherKey : List ℕ → List ℕ → List ℕ → Bool
+otherKey keys uid key = someCell slotWidth 0 slotPlaces (λ place c. otherKeyIn uid key c) keys

@@ -1,5 +1,41 @@
 // The types of the paper. What they mean is in specs/, a file for each heading of the paper.
 
+// The drive's numbers, as in specs/Numbers.antt.
+pub const NAMESPACES: usize = 4;
+
+pub const BLOCKS: usize = 256;
+
+pub const POOL: usize = 64;
+
+pub const TAGS: usize = 32;
+
+pub const UID: usize = 16;
+
+pub const KEY: usize = 32;
+
+pub const SLOT: usize = 1 + UID + KEY;
+
+pub const IDENTITY: usize = 8;
+
+pub const MARK: usize = 1 + IDENTITY;
+
+pub const SLOTS: usize = NAMESPACES * TAGS;
+
+pub const CACHE: usize = SLOTS * SLOT;
+
+pub const MARKS: usize = NAMESPACES * BLOCKS;
+
+pub const STORE: usize = MARKS * MARK;
+
+pub const DIGITS: usize = 140;
+
+pub const FRAME: usize = DIGITS / 2;
+
+pub const ANSWER: usize = 13;
+
+// The key cache: a slot for each tag that a namespace may hold.
+pub type Cache = [u8; CACHE];
+
 // A namespace number, 1 to 4 where it names one. A command's has 32 bits.
 pub struct Namespace(pub u32);
 
@@ -20,7 +56,7 @@ pub struct BootLocks {
 
 // The small part of the state: a tag count for each namespace, 0 where it is not managed, and the boot locks.
 pub struct Drive {
-    pub counts: [u8; 4],
+    pub counts: [u8; NAMESPACES],
     pub locks: BootLocks,
 }
 

@@ -1,0 +1,99 @@
+-- The first bad digit, found by a walk from the front; pairs of digits, decoded
+-- one after the other.
+-- Assumes nothing.
+use mathlib.Core.Path.{_≡_, refl, ap, _∙_}
+use mathlib.Core.Bool.{true, false, _&&_}
+use mathlib.Core.Logic.{by-cases}
+use mathlib.Core.List.{List, [], _∷_, _++_, append-assoc, append-nil}
+use Prim.Native.Nat.{ℕ, suc, _+_, _*_, _/_, _%_, _≤_, _<_}
+use native.Mathlib.Omega.{arith}
+use native.Mathlib.Numerals.{add-one}
+use native.Mathlib.Decide.{decLt}
+use lib.ListN.{length, getD, take, drop, set, drop-of-length-le}
+use lib.Seq.{drop-cons, take-suc, length-take-le}
+use lib.Dec.{leb}
+use borrow.Author.Tests.{leb-true}
+use Rattle.cells.proofs.CellsLaws.{grow}
+use Rattle.cells.proofs.TestsLaws.{and-left, and-right, true-or-false}
+use Rattle.rules.specs.FrameLine.{isDigit, valueOf, firstBad, decoded}
+use Rattle.digits.specs.Steps.{framed}
+
+pub outside : (a z d : ℕ) → (a ≤ d → d ≤ z → ⊥) → leb a d && leb d z ≡ false
+outside a z d out = true-or-false _ (λ e. out (leb-true a d (and-left _ _ e)) (leb-true d z (and-right (leb a d) _ e)))
+
+-- ------------------------------------------------------------------------
+-- The walk: no digit before k is bad, so that what is left from k decides
+
+abbrev pub CleanTo : List ℕ → ℕ → Type 0
+CleanTo line k = k + firstBad (drop k line) ≡ firstBad line
+
+module _ (line : List ℕ) (k : ℕ) (clean : CleanTo line k) where
+  pub clean-more : k < length line → isDigit (getD line k 0) ≡ true → CleanTo line (k + 1)
+  unfolding firstBad
+  clean-more h e =
+      let s : firstBad (drop k line) ≡ firstBad (drop (k + 1) line) + 1 = rw (drop-cons line k 0 h, e, add-one k, add-one) in
+      omega arith
+
+  pub clean-stop : k < length line → isDigit (getD line k 0) ≡ false → k ≡ firstBad line
+  unfolding firstBad
+  clean-stop h e = let s : firstBad (drop k line) ≡ 0 = rw (drop-cons line k 0 h, e) in omega arith
+
+  pub clean-end : length line ≤ k → k ≡ firstBad line
+  unfolding firstBad
+  clean-end h = let s : firstBad (drop k line) ≡ 0 = rw (drop-of-length-le line h) in omega arith
+
+-- ------------------------------------------------------------------------
+-- Pairs of digits
+
+length-decoded : (line : List ℕ) → length (decoded line) ≡ length line / 2
+unfolding decoded
+length-decoded [] = refl
+length-decoded (a ∷ []) = refl
+length-decoded (a ∷ b ∷ line) = omega (arith, length-decoded line)
+
+-- where the first of two texts is all pairs
+decoded-append : (p q : List ℕ) → length p % 2 ≡ 0 → decoded (p ++ q) ≡ decoded p ++ decoded q
+unfolding decoded
+decoded-append [] q e = refl
+decoded-append (a ∷ []) q e = absurd (omega arith)
+decoded-append (a ∷ b ∷ p) q e = ap (λ l. (valueOf a * 16 + valueOf b) ∷ l) (decoded-append p q (omega arith))
+
+module _ (line : List ℕ) (i : ℕ) where
+  front : i * 2 ≤ length line → length (take (i * 2) line) ≡ i * 2
+  front h = length-take-le (i * 2) line h
+
+  next-pair : i * 2 + 1 < length line
+      → decoded (take ((i + 1) * 2) line) ≡ decoded (take (i * 2) line) ++ ((valueOf (getD line (i * 2) 0) * 16 + valueOf (getD line (i * 2 + 1) 0)) ∷ [])
+  unfolding decoded
+  next-pair h =
+      let x : ℕ = getD line (i * 2) 0 in
+      let y : ℕ = getD line (i * 2 + 1) 0 in
+      let e : (i + 1) * 2 ≡ suc (i * 2 + 1) = omega arith in
+      let t : take (i * 2 + 1) line ≡ take (i * 2) line ++ (x ∷ []) = rw (add-one (i * 2)) (take-suc line (i * 2) 0 (omega arith)) in
+      rw (e, take-suc line (i * 2 + 1) 0 h, t, append-assoc)
+      (decoded-append (take (i * 2) line) (x ∷ y ∷ []) (omega (arith, front (omega arith))))
+
+  -- a digit without its fellow gives no byte
+  lone-digit : i * 2 < length line → decoded (take (suc (i * 2)) line) ≡ decoded (take (i * 2) line)
+  unfolding decoded
+  lone-digit h =
+      rw (take-suc line (i * 2) 0 h)
+      (decoded-append (take (i * 2) line) (getD line (i * 2) 0 ∷ []) (omega (arith, front (omega arith)))
+      ∙ append-nil (decoded (take (i * 2) line)))
+
+  -- a turn: i bytes are done, and the next goes to place i
+  pub decode-turn : (frame : List ℕ) → i * 2 + 1 < length line → i < length frame
+      → set (decoded (take (i * 2) line) ++ drop i frame) i (valueOf (getD line (i * 2) 0) * 16 + valueOf (getD line (i * 2 + 1) 0))
+      ≡ decoded (take ((i + 1) * 2) line) ++ drop (i + 1) frame
+  decode-turn frame h k =
+      rw (next-pair h)
+      (grow (decoded (take (i * 2) line)) frame i _ (omega (arith, length-decoded (take (i * 2) line), front (omega arith))) k)
+
+  -- the end: the first bad digit is in the next pair, or there is no pair left
+  pub decode-end : (frame : List ℕ) → firstBad line / 2 ≡ i → firstBad line ≤ length line
+      → decoded (take (i * 2) line) ++ drop i frame ≡ framed line frame
+  unfolding framed
+  decode-end frame e h =
+      by-cases (decLt (i * 2) (firstBad line))
+      (λ odd. let s : firstBad line ≡ suc (i * 2) = omega arith in rw (e, s, lone-digit (omega arith)))
+      (λ even. let s : firstBad line ≡ i * 2 = omega arith in rw (e, s))

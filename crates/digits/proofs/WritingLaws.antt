@@ -1,0 +1,63 @@
+-- Bytes as digits, written one byte after the other, and the line of an answer
+-- that has these bytes.
+-- Assumes nothing.
+use mathlib.Core.Path.{_≡_, refl, ap, _∙_}
+use mathlib.Core.List.{List, [], _∷_, _++_, append-assoc}
+use Prim.Native.Nat.{ℕ, _+_, _*_, _/_, _%_, _≤_, _<_}
+use native.Mathlib.Omega.{arith}
+use native.Mathlib.Numerals.{add-one}
+use lib.ListN.{length, getD, take, drop, set, length-append}
+use lib.Seq.{take-suc, length-take-le}
+use borrow.Author.Tests.{le-leb, lt-leb}
+use Rattle.cells.proofs.CellsLaws.{grow}
+use Rattle.rules.specs.declared.Answer.{Answer}
+use Rattle.rules.specs.Answers.{answerBytes, answerLine, digitOf, digitsOf, lineFeed}
+use Rattle.digits.specs.Digits.{Wrote, wrote}
+
+length-digits : (bs : List ℕ) → length (digitsOf bs) ≡ length bs * 2
+unfolding digitsOf
+length-digits [] = refl
+length-digits (b ∷ bs) = omega (arith, length-digits bs)
+
+digits-append : (p q : List ℕ) → digitsOf (p ++ q) ≡ digitsOf p ++ digitsOf q
+unfolding digitsOf
+digits-append [] q = refl
+digits-append (b ∷ p) q = ap (λ l. digitOf (b / 16) ∷ digitOf (b % 16) ∷ l) (digits-append p q)
+
+next-byte : (bs : List ℕ) (i : ℕ) → i < length bs
+    → digitsOf (take (i + 1) bs) ≡ (digitsOf (take i bs) ++ (digitOf (getD bs i 0 / 16) ∷ [])) ++ (digitOf (getD bs i 0 % 16) ∷ [])
+unfolding digitsOf
+next-byte bs i h = rw (add-one i, take-suc bs i 0 h, append-assoc) (digits-append (take i bs) (getD bs i 0 ∷ []))
+
+-- a turn: i bytes are done, and the next one's digits go to places i * 2 and i * 2 + 1
+pub digits-turn : (bs out : List ℕ) (i : ℕ) → i < length bs → length bs * 2 ≤ length out
+    → set (set (digitsOf (take i bs) ++ drop (i * 2) out) (i * 2) (digitOf (getD bs i 0 / 16))) (i * 2 + 1) (digitOf (getD bs i 0 % 16))
+    ≡ digitsOf (take (i + 1) bs) ++ drop ((i + 1) * 2) out
+digits-turn bs out i h k =
+    let x : ℕ = digitOf (getD bs i 0 / 16) in
+    let y : ℕ = digitOf (getD bs i 0 % 16) in
+    let p : List ℕ = digitsOf (take i bs) in
+    let l : length p ≡ i * 2 = length-digits (take i bs) ∙ ap (λ n. n * 2) (length-take-le i bs (omega arith)) in
+    let e : (i + 1) * 2 ≡ i * 2 + 1 + 1 = omega arith in
+    ap (λ d. set d (i * 2 + 1) y) (grow p out (i * 2) x l (omega arith))
+    ∙ grow (p ++ (x ∷ [])) out (i * 2 + 1) y (simp length-append (omega arith)) (omega arith)
+    ∙ (rw (e, next-byte bs i h))
+
+module _ (a : Answer) (bs out : List ℕ) (has : answerBytes a ≡ bs) where
+  line-is : answerLine a ≡ digitsOf bs ++ (lineFeed ∷ [])
+  unfolding answerLine
+  line-is = ap (λ l. digitsOf l ++ (lineFeed ∷ [])) has
+
+  length-line : length (answerLine a) ≡ length bs * 2 + 1
+  length-line = ap length line-is ∙ simp length-append (omega (arith, length-digits bs))
+
+  pub wrote-not : length out ≤ length bs * 2 → _≡_ {A = Wrote} (record { bytes = 0; out = out }) (wrote a out)
+  unfolding wrote
+  wrote-not h = rw (length-line, lt-leb (length bs * 2 + 1) (length out) (omega arith))
+
+  -- the digits stand, and the line feed goes behind them
+  pub wrote-all : length bs * 2 < length out
+      → _≡_ {A = Wrote} (record { bytes = length bs * 2 + 1; out = set (digitsOf bs ++ drop (length bs * 2) out) (length bs * 2) lineFeed }) (wrote a out)
+  unfolding wrote
+  wrote-all h =
+      rw (length-line, le-leb (length bs * 2 + 1) (length out) (omega arith), line-is, grow (digitsOf bs) out (length bs * 2) lineFeed (length-digits bs) h)

@@ -1,0 +1,192 @@
+// A frame line to its bytes, and an answer to its line.
+ghost use mathlib.Core.Path.{_≡_};
+ghost use mathlib.Core.List.{_++_};
+ghost use Prim.Native.Nat.{_*_, _/_, _<_, _≤_};
+ghost use lib.ListN.{length, drop};
+ghost use Rattle.rules.specs.Answers.{refusalNumber, number as numberOf, answerBytes, digitOf, digitsOf};
+ghost use Rattle.rules.specs.FrameLine.{firstBad};
+ghost use Rattle.digits.specs.Digits.{readInto, wrote};
+ghost use Rattle.digits.specs.Steps.{Valued, framed};
+use rules::Answer;
+use rules::DIGITS;
+use rules::FRAME;
+use rules::LineRead;
+use rules::Refusal;
+use std::num::wrapping_sub_u8;
+
+// A digit's value; above 15 for a byte that is no digit. Compiled, it has no branch.
+fn value(d: u8) -> u8
+    ensures { λ r. ⌜ Valued d r ⌝ }
+{
+    let numeral = wrapping_sub_u8(d, b'0');
+    if numeral < 10 {
+        return numeral;
+    }
+    let letter = wrapping_sub_u8(d, b'A');
+    if letter < 6 {
+        return letter + 10;
+    }
+    16
+}
+
+// The bytes of the pairs of digits before the first bad one go to the front of the frame; its place is the answer.
+fn decode(line: &[u8], frame: &mut [u8]) -> usize
+    requires { ⌜ length (now line) / 2 ≤ length (now frame) ⌝ }
+    ensures { λ r. ⌜ (r ≡ firstBad (now (line .entry))) × (now (frame .exit) ≡ framed (now (line .entry)) (now (frame .entry))) ⌝ }
+{
+    let n = line.len() / 2;
+    let mut i = 0;
+    while i < n {
+        let at = i * 2;
+        let next = at + 1;
+        let high = value(line[at]);
+        if high > 15 {
+            return at;
+        }
+        let low = value(line[next]);
+        if low > 15 {
+            return next;
+        }
+        frame[i] = high * 16 + low;
+        i += 1;
+    }
+    let last = i * 2;
+    if last == line.len() {
+        return last;
+    }
+    if value(line[last]) > 15 {
+        return last;
+    }
+    last + 1
+}
+
+// Reads a line into the front of the frame, and says how many bytes it has or why it is no frame line.
+pub fn read_line(line: &[u8], frame: &mut [u8; FRAME]) -> LineRead
+    ensures { λ r. ⌜ record { read = r; frame = now (frame .exit) } ≡ readInto (now (line .entry)) (now (frame .entry)) ⌝ }
+{
+    let n = line.len();
+    if n == 0 {
+        return LineRead::Empty;
+    }
+    if n > DIGITS {
+        return LineRead::TooLong;
+    }
+    let bad = decode(line, frame);
+    if bad < n {
+        return LineRead::BadDigit(bad);
+    }
+    if n % 2 == 1 {
+        return LineRead::Odd;
+    }
+    LineRead::Bytes(n / 2)
+}
+
+fn refusal_number(refusal: Refusal) -> u16
+    ensures { λ r. ⌜ r ≡ refusalNumber refusal ⌝ }
+{
+    match refusal {
+        Refusal::InvalidOpcode => 0x0001,
+        Refusal::InvalidField => 0x0002,
+        Refusal::InvalidNamespace => 0x000B,
+        Refusal::InvalidKeyTag => 0x0025,
+        Refusal::IncorrectKey => 0x0028,
+        Refusal::BlocksOutOfRange => 0x0080,
+        Refusal::LockNotChangeable => 0x010E,
+        Refusal::BootWriteProhibited => 0x011E,
+        Refusal::NotAFrameLine => 0x0701,
+        Refusal::UnknownKind => 0x0702,
+        Refusal::WrongLength => 0x0703,
+        Refusal::BadKeyUidLength => 0x0704,
+        Refusal::AlreadyManaged => 0x0705,
+        Refusal::NotManaged => 0x0706,
+        Refusal::BadTagCount => 0x0707,
+        Refusal::PoolTooSmall => 0x0708,
+        Refusal::SlotOccupied => 0x0709,
+        Refusal::SlotEmpty => 0x070A,
+        Refusal::OtherOldKeyUid => 0x070B,
+        Refusal::OtherKey => 0x070C,
+        Refusal::WrongStore => 0x070D,
+        Refusal::UnsoundState => 0x070E,
+        Refusal::OutputTooShort => 0x070F,
+    }
+}
+
+// The answer's number in the paper.
+pub fn number(answer: Answer) -> u16
+    ensures { λ r. ⌜ r ≡ numberOf answer ⌝ }
+{
+    match answer {
+        Answer::Done => 0,
+        Answer::LockStates(_) => 0,
+        Answer::Refused(refusal) => refusal_number(refusal),
+    }
+}
+
+fn digit(n: u8) -> u8
+    requires { ⌜ n < 16 ⌝ }
+    ensures { λ r. ⌜ r ≡ digitOf n ⌝ }
+{
+    if n < 10 {
+        return b'0' + n;
+    }
+    b'A' + (n - 10)
+}
+
+// Two digits for each byte, at the front of the output.
+fn put_digits(bytes: &[u8], out: &mut [u8])
+    requires { ⌜ length (now bytes) * 2 ≤ length (now out) ⌝ }
+    ensures { λ _. ⌜ now (out .exit) ≡ digitsOf (now (bytes .entry)) ++ drop (length (now (bytes .entry)) * 2) (now (out .entry)) ⌝ }
+{
+    let mut i = 0;
+    while i < bytes.len() {
+        let byte = bytes[i];
+        let high = digit(byte / 16);
+        let low = digit(byte % 16);
+        let at = i * 2;
+        let next = at + 1;
+        out[at] = high;
+        out[next] = low;
+        i += 1;
+    }
+}
+
+// Writes the line of an answer that has these bytes.
+fn write_line(bytes: &[u8], out: &mut [u8]) -> usize
+    ensures { λ r. ⌜ ((a : Answer) → answerBytes a ≡ now (bytes .entry) → record { bytes = r; out = now (out .exit) } ≡ wrote a (now (out .entry))) ⌝ }
+{
+    let n = bytes.len() * 2;
+    if out.len() <= n {
+        return 0;
+    }
+    put_digits(bytes, out);
+    out[n] = b'\n';
+    n + 1
+}
+
+// Writes the answer's line to the front of the output, and says how many bytes it has; 0 where there is no room.
+pub fn write_answer(answer: Answer, out: &mut [u8]) -> usize
+    ensures { λ r. ⌜ record { bytes = r; out = now (out .exit) } ≡ wrote answer (now (out .entry)) ⌝ }
+{
+    match answer {
+        Answer::Done => {
+            let bytes = [0u8, 0];
+            write_line(&bytes, out)
+        }
+        Answer::LockStates(d) => {
+            let bytes = [
+                0u8,
+                0,
+                (d % 256) as u8,
+                (d / 256 % 256) as u8,
+                (d / 65536 % 256) as u8,
+                (d / 16777216 % 256) as u8,
+            ];
+            write_line(&bytes, out)
+        }
+        Answer::Refused(refusal) => {
+            let n = refusal_number(refusal);
+            let bytes = [(n / 256) as u8, (n % 256) as u8];
+            write_line(&bytes, out)
+        }
+    }
+}

@@ -1,0 +1,67 @@
+-- `differs_from` meets its contract: no block so far differs.
+-- Assumes nothing.
+use borrow.Author.Needs.{needs}
+use native.Mathlib.Omega.{arith}
+use mathlib.Core.Path.{_≡_, refl, sym, ap, _∙_}
+use mathlib.Core.Bool.{false}
+use Prim.Native.Nat.{_+_, _-_, _≤_}
+use Rattle.cells.specs.Tests.{someCell}
+use Rattle.cells.proofs.TestsLaws.{some-start, some-next, some-hit}
+use Rattle.rules.specs.Numbers.{markWidth}
+use Rattle.rules.specs.Marks.{differs}
+use Rattle.marks.proofs.differs_from.Statement.{statement}
+use Rattle.marks.proofs.differs_from.Tie as tie
+
+abbrev Inv-loop : tie.InvT-loop
+Inv-loop marks first n identity k₀ k = (k ≤ n) × (someCell markWidth first k (λ block m. differs identity m) marks ≡ false)
+
+abbrev μ-loop : tie.MeasureT-loop
+μ-loop marks first n identity k₀ k = n - k
+
+loop-holds : tie.Need-loop-holds Inv-loop μ-loop
+loop-holds c = (omega arith, some-start markWidth _ _ _)
+
+add-block : tie.Need-add-block Inv-loop μ-loop
+add-block c = omega arith
+
+mark-differs-requires : tie.Need-mark-differs-requires Inv-loop μ-loop
+mark-differs-requires c κs = (search needs, omega arith)
+
+returns : tie.Need-returns Inv-loop μ-loop
+returns c =
+    let s = c .before .before .before .before .before .before .args in
+    let l = c .before .before .before .loop in
+    some-hit markWidth (λ block m. differs (s .identity .now) m) (s .first) (s .n) (s .first + l .k) (s .marks .now) (omega arith) (omega arith) (sym (c .before .mark-differs .ensures) ∙ c .if1 .taken)
+
+add-k : tie.Need-add-k Inv-loop μ-loop
+add-k c = omega arith
+
+loop-less : tie.Need-loop-less Inv-loop μ-loop
+loop-less c = omega arith
+
+loop-again : tie.Need-loop-again Inv-loop μ-loop
+loop-again c =
+    let s = c .before .before .before .before .before .before .args in
+    let l = c .before .before .before .loop in
+    (omega arith, some-next markWidth (λ block m. differs (s .identity .now) m) (s .first) (l .k) (s .first + l .k) (s .marks .now) refl (l .inv .1) (sym (c .before .mark-differs .ensures) ∙ c .if1 .left))
+
+returns-2 : tie.Need-returns-2 Inv-loop μ-loop
+returns-2 c =
+    let s = c .before .before .before .before .args in
+    let e : c .before .loop .k ≡ s .n = omega arith in
+    sym (c .before .loop .inv .1) ∙ ap (λ j. someCell markWidth (s .first) j (λ block m. differs (s .identity .now) m) (s .marks .now)) e
+
+pub differs-from-spec : {M : Type 1} → statement M
+differs-from-spec =
+    tie.close
+    (tie.spec
+    Inv-loop
+    μ-loop
+    loop-holds
+    add-block
+    mark-differs-requires
+    returns
+    add-k
+    loop-less
+    loop-again
+    returns-2)

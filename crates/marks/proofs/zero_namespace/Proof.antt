@@ -1,0 +1,94 @@
+-- `zero_namespace` meets its contract: one fill zeroes a run of marks.
+-- Assumes nothing.
+use borrow.Author.Needs.{needs}
+use native.Mathlib.Omega.{arith}
+use mathlib.Core.Path.{_≡_, ap, _∙_}
+use mathlib.Core.List.{_++_}
+use Prim.Native.Nat.{_+_, _-_, _*_, _≤_}
+use lib.ListN.{length, take, drop}
+use borrow.Author.Tests.{eq-eqb, ne-eqb, lt-ltb, le-ltb}
+use Rattle.cells.specs.Cells.{zeros, fill}
+use Rattle.cells.proofs.CellsLaws.{lent-length, back-zeros}
+use Rattle.rules.specs.Numbers.{namespaces, blocksEach, markWidth, storeSize}
+use Rattle.rules.specs.Marks.{blockOf, neverWritten}
+use Rattle.marks.specs.Store.{zeroed}
+use Rattle.marks.proofs.zero_namespace.Statement.{statement}
+use Rattle.marks.proofs.zero_namespace.Tie as tie
+
+returns : tie.Need-returns
+unfolding zeroed
+returns c = rw (ne-eqb (length (c .before .before .args .marks .now)) storeSize (c .if1 .taken))
+
+cast-n : tie.Need-cast-n
+cast-n c = search needs
+
+returns-2 : tie.Need-returns-2
+unfolding zeroed
+returns-2 c = rw (eq-eqb (length (c .before .before .before .before .args .marks .now)) storeSize (omega arith), lt-ltb (c .before .before .before .before .args .ns .0) 1 (c .if2 .taken))
+
+returns-3 : tie.Need-returns-3
+unfolding zeroed
+returns-3 c = rw (eq-eqb (length (c .before .before .before .before .before .args .marks .now)) storeSize (omega arith), le-ltb (c .before .before .before .before .before .args .ns .0) 1 (c .before .if2 .left), lt-ltb namespaces (c .before .before .before .before .before .args .ns .0) (c .if3 .taken))
+
+mul-first : tie.Need-mul-first
+mul-first c = search needs
+
+mul-a : tie.Need-mul-a
+mul-a c = search needs
+
+mul-e : tie.Need-mul-e
+mul-e c = search needs
+
+add-e : tie.Need-add-e
+add-e c = search needs
+
+sub-fill-zero : tie.Need-sub-fill-zero
+sub-fill-zero c = search needs
+
+part-fill-zero-start : tie.Need-part-fill-zero-start
+part-fill-zero-start c = search needs
+
+part-fill-zero-end : tie.Need-part-fill-zero-end
+part-fill-zero-end c = search needs
+
+fill-zero-requires : tie.Need-fill-zero-requires
+fill-zero-requires c κs = search needs
+
+same-length : tie.Need-same-length
+same-length c = search needs
+
+returns-4 : tie.Need-returns-4
+unfolding zeroed
+returns-4 c =
+    let s = c .before .before .before .before .before .before .before .before .before .args in
+    let size : length (s .marks .now) ≡ storeSize = omega arith in
+    let lo : 1 ≤ s .ns .0 = omega arith in
+    let hi : s .ns .0 ≤ namespaces = omega arith in
+    let i = (s .ns .0 - 1) * blocksEach in
+    let n = blocksEach * markWidth in
+    let a = i * markWidth in
+    let fits : a + n ≤ length (s .marks .now) = omega arith in
+    let at : i ≡ blockOf (s .ns) 0 = omega arith in
+    ap (λ v. take a (s .marks .now) ++ (v ++ drop (a + n - a) (drop a (s .marks .now)))) (c .before .before .fill-zero .ensures ∙ ap zeros (lent-length a n (s .marks .now) fits))
+    ∙ back-zeros markWidth i blocksEach (s .marks .now)
+    ∙ ap (λ k. fill markWidth k blocksEach neverWritten (s .marks .now)) at
+    ∙ (rw (eq-eqb (length (s .marks .now)) storeSize size, le-ltb (s .ns .0) 1 lo, le-ltb namespaces (s .ns .0) hi))
+
+pub zero-namespace-spec : {M : Type 1} → statement M
+zero-namespace-spec =
+    tie.close
+    (tie.spec
+    returns
+    cast-n
+    returns-2
+    returns-3
+    mul-first
+    mul-a
+    mul-e
+    add-e
+    sub-fill-zero
+    part-fill-zero-start
+    part-fill-zero-end
+    fill-zero-requires
+    same-length
+    returns-4)

@@ -1,0 +1,111 @@
+// The mark store, lent by the caller at any length: a block's mark is the MARK bytes from block * MARK. Every public function is total.
+ghost use mathlib.Core.Path.{_≡_};
+ghost use Prim.Native.Nat.{_+_, _*_, _≤_, _<_};
+ghost use lib.ListN.{length};
+ghost use Rattle.cells.specs.Cells.{cell, put, fill};
+ghost use Rattle.cells.specs.Tests.{someCell};
+ghost use Rattle.rules.specs.Numbers.{markWidth, markPlaces, storeSize};
+ghost use Rattle.rules.specs.Marks.{differs};
+ghost use Rattle.marks.specs.Store.{someDiffers, marked, zeroed};
+use rules::BLOCKS;
+use rules::MARK;
+use rules::MARKS;
+use rules::NAMESPACES;
+use rules::Namespace;
+use rules::STORE;
+
+// Whether the block has been written and its mark differs from this identity.
+fn mark_differs(marks: &[u8], block: usize, identity: &[u8]) -> bool
+    requires { ⌜ (length (now marks) ≡ storeSize) × (block < markPlaces) ⌝ }
+    ensures { λ r. ⌜ r ≡ differs (now (identity .entry)) (cell markWidth block (now (marks .entry))) ⌝ }
+{
+    let a = block * MARK;
+    if marks[a] == 0 {
+        return false;
+    }
+    let e = a + MARK;
+    !cells::equal(&marks[a..e], identity)
+}
+
+fn differs_from(marks: &[u8], first: usize, n: usize, identity: &[u8]) -> bool
+    requires { ⌜ (length (now marks) ≡ storeSize) × (first + n ≤ markPlaces) ⌝ }
+    ensures { λ r. ⌜ r ≡ someCell markWidth first n (λ block m. differs (now (identity .entry)) m) (now (marks .entry)) ⌝ }
+{
+    let mut k = 0;
+    while k < n {
+        let block = first + k;
+        if mark_differs(marks, block, identity) {
+            return true;
+        }
+        k += 1;
+    }
+    false
+}
+
+// 00 28: whether one of the n blocks from first has been written under another identity.
+pub fn some_differs(marks: &[u8], first: usize, n: usize, identity: &[u8]) -> bool
+    ensures { λ r. ⌜ r ≡ someDiffers first n (now (identity .entry)) (now (marks .entry)) ⌝ }
+{
+    if marks.len() != STORE {
+        return false;
+    }
+    if first > MARKS {
+        return false;
+    }
+    if n > MARKS - first {
+        return false;
+    }
+    differs_from(marks, first, n, identity)
+}
+
+fn mark_from(marks: &mut [u8], first: usize, n: usize, identity: &[u8])
+    requires { ⌜ (length (now marks) ≡ storeSize) × (first + n ≤ markPlaces) × (length (now identity) ≡ markWidth) ⌝ }
+    ensures { λ _. ⌜ now (marks .exit) ≡ fill markWidth first n (now (identity .entry)) (now (marks .entry)) ⌝ }
+{
+    let mut k = 0;
+    while k < n {
+        let a = (first + k) * MARK;
+        let e = a + MARK;
+        cells::copy(&mut marks[a..e], identity);
+        k += 1;
+    }
+}
+
+// The marks of the n blocks from first become this identity.
+pub fn mark(marks: &mut [u8], first: usize, n: usize, identity: &[u8])
+    ensures { λ _. ⌜ now (marks .exit) ≡ marked first n (now (identity .entry)) (now (marks .entry)) ⌝ }
+{
+    if marks.len() != STORE {
+        return;
+    }
+    if first > MARKS {
+        return;
+    }
+    if n > MARKS - first {
+        return;
+    }
+    if identity.len() != MARK {
+        return;
+    }
+    mark_from(marks, first, n, identity);
+}
+
+// The namespace's blocks become never written.
+pub fn zero_namespace(marks: &mut [u8], ns: Namespace)
+    ensures { λ _. ⌜ now (marks .exit) ≡ zeroed ns (now (marks .entry)) ⌝ }
+{
+    if marks.len() != STORE {
+        return;
+    }
+    let n = ns.0 as usize;
+    if n < 1 {
+        return;
+    }
+    if n > NAMESPACES {
+        return;
+    }
+    let first = (n - 1) * BLOCKS;
+    let a = first * MARK;
+    let e = a + BLOCKS * MARK;
+    cells::fill_zero(&mut marks[a..e]);
+}
