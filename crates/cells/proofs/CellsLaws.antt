@@ -263,7 +263,7 @@ module _ (w i n : ℕ) (v xs : List ℕ) (fits : (i + n) * w ≤ length xs) (ful
       o
 
 -- a run grows by the next cell
-write-end : (a n : ℕ) (v xs : List ℕ) → a + n ≤ length xs → length v ≡ n → take (a + n) (write a n v xs) ≡ take a xs ++ v
+pub write-end : (a n : ℕ) (v xs : List ℕ) → a + n ≤ length xs → length v ≡ n → take (a + n) (write a n v xs) ≡ take a xs ++ v
 unfolding write
 write-end a n v xs fits full =
     ap (take (a + n)) (sym (append-assoc (take a xs) v (drop n (drop a xs))))
@@ -356,3 +356,19 @@ pub push : (p d v : List ℕ) (k e : ℕ) → length p ≡ k → k ≤ e
 push p d v k e l h =
     let q : k + (e - k) ≡ e = omega arith in
     (rw (take-at p (drop k d) k l, drop-at p (drop k d) k l, drop-drop, q)) ∙ sym (append-assoc p v (drop e d))
+
+-- the rest of a slice, lent from a to its end, and with v written at the rest's front
+pub lent-rest : (a : ℕ) (xs : List ℕ) → take (length xs - a) (drop a xs) ≡ drop a xs
+lent-rest a xs = take-all (length xs - a) (drop a xs) (simp length-drop (omega arith))
+
+pub back-rest : (a : ℕ) (ys xs : List ℕ) → take a xs ++ (ys ++ drop (length xs - a) (drop a xs)) ≡ take a xs ++ ys
+back-rest a ys xs =
+    let e : drop (length xs - a) (drop a xs) ≡ [] = drop-of-length-le (drop a xs) {i = length xs - a} (simp length-drop (omega arith)) in
+    rw e (ap (λ z. take a xs ++ z) (append-nil ys))
+
+-- a run of zero cells that is the whole list
+pub fill-all : (w n : ℕ) (xs : List ℕ) → length xs ≡ n * w → fill w 0 n (zeros w) xs ≡ zeros (n * w)
+unfolding fill write
+fill-all w n xs e =
+    let none : drop (n * w) xs ≡ [] = drop-of-length-le xs {i = n * w} (omega arith) in
+    (rw (zero-mul, none)) ∙ append-nil (copies n (zeros w)) ∙ copies-zeros w n

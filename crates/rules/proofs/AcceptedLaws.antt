@@ -17,10 +17,11 @@ use Rattle.rules.specs.Numbers.{blocksEach, tagsMost, poolSlots, slotWid
 use Rattle.rules.specs.Checks.{Check, AllPass, onlyIf}
 use Rattle.rules.specs.Answers.{accepted}
 use Rattle.rules.specs.State.{State, Sized, sameNamespace, sameTag, count, managed, tagAbove, total}
-use Rattle.rules.specs.Slots.{placeOf, slot, emptied, Held, nothing, holding, held, otherKey}
+use Rattle.rules.specs.Slots.{placeOf, slot, emptied, Held, nothing, holding, held, otherKey, FitKey}
 use Rattle.rules.specs.Marks.{mark, neverWritten, identityOf}
 use Rattle.rules.specs.Sound.{someAbove, slotUnsound, unsound}
-use Rattle.rules.specs.Frames.{Command, Frame, manage, release, load, replace, clearOne, clearAll, io, setFeatures, getFeatures, bootWrite, reset, unknown}
+use Rattle.rules.specs.declared.Command.{Command}
+use Rattle.rules.specs.Frames.{Frame, manage, release, load, replace, clearOne, clearAll, io, setFeatures, getFeatures, bootWrite, reset, unknown}
 use Rattle.rules.specs.Effects.{setCount, storeKey, emptySlot, emptySlots, emptyAllSlots, zeroMarks, markCovered, onlyWhen}
 use Rattle.rules.specs.Order as order
 use Rattle.rules.specs.Order.{frameRule, isWrite, isReading, commandChecks, keyChecks, markCheck, isPowerCycle, released, powerCycled}
@@ -28,7 +29,7 @@ use Rattle.rules.specs.Promises.{IsNamespace, IsSlot}
 use Rattle.rules.specs.History.{touches, leaves, covers, countAfter}
 use Rattle.rules.proofs.ChecksLaws.{pass-append}
 use Rattle.rules.proofs.StateLaws.{same-namespace, same-tag, is-namespace, unmanaged, total-set}
-use Rattle.rules.proofs.FramesLaws.{FitKey, Fit}
+use Rattle.rules.proofs.FramesLaws.{Fit}
 use Rattle.rules.proofs.SlotsLaws.{bytesOf}
 use Rattle.rules.proofs.SoundLaws.{above-set, unallocated-zero, sound-counts, sound-total, sound-slot}
 use Rattle.rules.proofs.EffectsLaws.{named-slot, slot-fits, store-same, store-other, empty-same, empty-other, emptied-same, emptied-other, all-emptied, zeroed-same, zeroed-other, covered-same, covered-other, count-same, count-other, sized-count, sized-store, sized-empty, sized-emptied, sized-all, sized-zeroed, sized-covered}

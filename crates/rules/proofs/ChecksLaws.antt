@@ -1,12 +1,12 @@
 -- What a list of checks means, over any kind of refusal.
 -- Assumes nothing.
-use mathlib.Core.Path.{_≡_, refl, ap, _∙_}
+use mathlib.Core.Path.{_≡_, refl, sym, ap, _∙_}
 use mathlib.Core.Bool.{true, false, true≢false}
 use mathlib.Core.List.{List, [], _∷_, _++_}
 use mathlib.Core.Logic.{_↔_, _⊎_, inl, inr, ⊎-elim}
 use Prim.Native.Nat.{ℕ}
 use native.Mathlib.Omega.{arith}
-use Rattle.rules.specs.Checks.{Check, _when_, passed, refused, firstRefusal, settle, judged, AllPass, FirstToFail}
+use Rattle.rules.specs.Checks.{Check, _when_, Verdict, passed, refused, firstRefusal, settle, judged, AllPass, FirstToFail}
 
 never : {A : Type 0} {a : A} → passed ≡ refused a → ⊥
 never {A} {a} e = let z : _≡_ {A = ℕ} 0 1 = cc in omega arith
@@ -34,6 +34,11 @@ module _ {A : Type 0} where
   pass-then ((b when true) ∷ cs) p = absurd (true≢false (p .0))
   pass-then ((b when false) ∷ cs) p = pass-then cs (p .1)
 
+  pub then-pass : (cs : List (Check A)) → firstRefusal cs ≡ passed → AllPass cs
+  then-pass [] e = tt
+  then-pass ((b when true) ∷ cs) e = absurd (never (sym e))
+  then-pass ((b when false) ∷ cs) e = (refl, then-pass cs e)
+
   -- a check is the first to fail, or every one passes
   verdict : (cs : List (Check A)) → ((a : A) × (firstRefusal cs ≡ refused a)) ⊎ AllPass cs
   verdict [] = inr tt
@@ -59,3 +64,11 @@ module _ {A : Type 0} where
 
   pub judged-cases : {B : Type 0} (cs : List (Check A)) (f : A → B) (o : B) → ((a : A) × (judged cs f o ≡ f a)) ⊎ (AllPass cs × (judged cs f o ≡ o))
   judged-cases cs f o = ⊎-elim (λ r. inl (r .0, ap (λ v. settle v f o) (r .1))) (λ p. inr (p, judged-pass cs f o p)) (verdict cs)
+
+  -- what is made of a judgement is a judgement
+  settled-map : {B C : Type 0} (v : Verdict A) (f : B → C) (g : A → B) (o : B) → f (settle v g o) ≡ settle v (λ a. f (g a)) (f o)
+  settled-map passed f g o = refl
+  settled-map (refused a) f g o = refl
+
+  pub judged-map : {B C : Type 0} (cs : List (Check A)) (f : B → C) (g : A → B) (o : B) → f (judged cs g o) ≡ judged cs (λ a. f (g a)) (f o)
+  judged-map cs f g o = settled-map (firstRefusal cs) f g o

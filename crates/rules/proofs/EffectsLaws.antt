@@ -19,15 +19,14 @@ use Rattle.rules.specs.declared.Namespace.{Namespace}
 use Rattle.rules.specs.declared.Tag.{Tag}
 use Rattle.rules.specs.Numbers.{blocksEach, tagsMost, slotWidth, slotPlaces, cacheSize, markWidth, storeSize, identityMost}
 use Rattle.rules.specs.State.{State, Sized, keyTag, sameNamespace, sameTag, count, tagAbove}
-use Rattle.rules.specs.Slots.{placeOf, slot, emptied, slotBytes, Held, nothing, holding, held}
+use Rattle.rules.specs.Slots.{placeOf, slot, emptied, slotBytes, Held, nothing, holding, held, FitKey}
 use Rattle.rules.specs.Marks.{blockOf, mark, keptIdentity, neverWritten, identityOf}
 use Rattle.rules.specs.Sound.{unsound}
-use Rattle.rules.specs.Frames.{Command}
+use Rattle.rules.specs.declared.Command.{Command}
 use Rattle.rules.specs.Effects.{withKeys, withMarks, setCount, storeKey, emptySlot, emptySlots, emptyAllSlots, zeroMarks, markCovered}
 use Rattle.rules.specs.Promises.{IsNamespace, IsSlot}
 use Rattle.rules.specs.History.{covers}
 use Rattle.rules.proofs.StateLaws.{same-namespace, same-tag, other-namespace}
-use Rattle.rules.proofs.FramesLaws.{FitKey}
 use Rattle.rules.proofs.SlotsLaws.{place-small, length-padded, length-slot}
 use Rattle.rules.proofs.SoundLaws.{above-none, sound-counts}
 

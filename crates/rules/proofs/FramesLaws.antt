@@ -14,12 +14,8 @@ use Rattle.cells.proofs.TestsLaws.{or-left, or-right}
 use Rattle.rules.specs.Numbers.{uidMost, keySize}
 use Rattle.rules.specs.Checks.{AllPass}
 use Rattle.rules.specs.FrameLine.{byte}
+use Rattle.rules.specs.Slots.{FitKey}
 use Rattle.rules.specs.Frames.{Frame, manage, release, load, replace, clearOne, clearAll, io, setFeatures, getFeatures, bootWrite, reset, unknown, badUidLength, readLoad, readReplace, unknownKind, kinds, readFrame}
-
-pub record FitKey (uid key : List ℕ) : Type 0 where
-  pub some : 1 ≤ length uid
-  pub short : length uid ≤ uidMost
-  pub whole : length key ≡ keySize
 
 abbrev pub Fit : Frame → Type 0
 Fit (manage ns tags) = Unit {0}

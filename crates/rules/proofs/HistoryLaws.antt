@@ -23,7 +23,8 @@ use Rattle.rules.specs.State.{State, Sized, sameNamespace, count, manage
 use Rattle.rules.specs.Slots.{placeOf, slot, emptied, loaded, uidOf, keyOf, Held, nothing, holding, held}
 use Rattle.rules.specs.Marks.{blockOf, mark, neverWritten, identityOf}
 use Rattle.rules.specs.Sound.{someAbove, slotUnsound, unsound}
-use Rattle.rules.specs.Frames.{Command, Frame, manage, release, load, replace, clearOne, clearAll, io, setFeatures, getFeatures, bootWrite, reset, unknown}
+use Rattle.rules.specs.declared.Command.{Command}
+use Rattle.rules.specs.Frames.{Frame, manage, release, load, replace, clearOne, clearAll, io, setFeatures, getFeatures, bootWrite, reset, unknown}
 use Rattle.rules.specs.Order as order
 use Rattle.rules.specs.Order.{frameRule, frameOf, isWrite, keyChecks, step}
 use Rattle.rules.specs.Start.{freshDrive, fresh}

@@ -17,7 +17,7 @@ use Rattle.rules.specs.Numbers.{markWidth}
 use Rattle.rules.specs.State.{State}
 use Rattle.rules.specs.Slots.{slot, Held, nothing, holding, held}
 use Rattle.rules.specs.Marks.{blockOf, mark, keptIdentity, neverWritten, identityOf, differs}
-use Rattle.rules.specs.Frames.{Command}
+use Rattle.rules.specs.declared.Command.{Command}
 use Rattle.rules.specs.Order.{wrongKey}
 use Rattle.rules.specs.History.{covers}
 use Rattle.rules.proofs.SlotsLaws.{FitHeld}

@@ -20,7 +20,8 @@ use Rattle.rules.specs.Answers.{answerLine, 00·28}
 use Rattle.rules.specs.State.{State, Outcome, refuse, obey, managed}
 use Rattle.rules.specs.Slots.{slot, empty, loaded, uidOf, keyOf, Held, nothing, holding, held}
 use Rattle.rules.specs.Marks.{mark, neverWritten, identityOf, differs}
-use Rattle.rules.specs.Frames.{Command, manage, load, io}
+use Rattle.rules.specs.declared.Command.{Command}
+use Rattle.rules.specs.Frames.{manage, load, io}
 use Rattle.rules.specs.Order as order
 use Rattle.rules.specs.Order.{frameRule, frameOf, lineRule, step, isReading, commandChecks, keyChecks, markCheck, wrongKey}
 use Rattle.rules.specs.Call.{callChecks, roomFor, written, Called, call}

@@ -16,9 +16,8 @@ use Rattle.rules.specs.declared.Namespace.{Namespace}
 use Rattle.rules.specs.declared.Tag.{Tag}
 use Rattle.rules.specs.Numbers.{tagsMost, uidMost, keySize, slotWidth, slotPlaces}
 use Rattle.rules.specs.State.{State}
-use Rattle.rules.specs.Slots.{placeOf, namespaceAt, tagAt, slot, padded, slotBytes, emptied, uidLength, empty, loaded, uidOf, keyOf, Held, nothing, holding, held, otherKeyIn, otherKey}
+use Rattle.rules.specs.Slots.{placeOf, namespaceAt, tagAt, slot, padded, slotBytes, emptied, uidLength, empty, loaded, uidOf, keyOf, Held, nothing, holding, held, otherKeyIn, otherKey, FitKey}
 use Rattle.rules.specs.Promises.{IsSlot}
-use Rattle.rules.proofs.FramesLaws.{FitKey}
 
 -- ------------------------------------------------------------------------
 -- Places

@@ -18,10 +18,9 @@ use Rattle.rules.specs.declared.Namespace.{Namespace}
 use Rattle.rules.specs.declared.Tag.{Tag}
 use Rattle.rules.specs.Numbers.{poolSlots, tagsMost, uidMost, slotWidth, slotPlaces}
 use Rattle.rules.specs.State.{State, tagAbove, total}
-use Rattle.rules.specs.Slots.{placeOf, namespaceAt, tagAt, slot, padded, slotBytes, emptied, uidLength, empty, loaded}
+use Rattle.rules.specs.Slots.{placeOf, namespaceAt, tagAt, slot, padded, slotBytes, emptied, uidLength, empty, loaded, FitKey}
 use Rattle.rules.specs.Sound.{someAbove, afterUid, slotUnsound, unsound}
 use Rattle.rules.specs.Promises.{IsSlot}
-use Rattle.rules.proofs.FramesLaws.{FitKey}
 use Rattle.rules.proofs.SlotsLaws.{place-small, slot-at, place-at, namespace-back, tag-back, uid-length, loaded-stored}
 
 -- ------------------------------------------------------------------------

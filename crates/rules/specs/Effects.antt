@@ -12,7 +12,7 @@ use Rattle.rules.specs.Numbers.{blocksEach, tagsMost, slotWidth, slotPla
 use Rattle.rules.specs.State.{State, keyTag}
 use Rattle.rules.specs.Slots.{placeOf, slot, emptied, slotBytes, held}
 use Rattle.rules.specs.Marks.{blockOf, neverWritten, identityOf}
-use Rattle.rules.specs.Frames.{Command}
+use Rattle.rules.specs.declared.Command.{Command}
 
 abbrev pub withCounts : State → List ℕ → State
 withCounts s counts = record { drive = record { counts = counts; locks = s .drive .locks }; keys = s .keys; marks = s .marks }

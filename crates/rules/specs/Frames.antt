@@ -10,20 +10,12 @@ use Rattle.cells.specs.Cells.{part}
 use Rattle.rules.specs.declared.Namespace.{Namespace}
 use Rattle.rules.specs.declared.Tag.{Tag}
 use Rattle.rules.specs.declared.Refusal.{Refusal}
+use Rattle.rules.specs.declared.Command.{Command}
 use Rattle.rules.specs.Numbers.{uidMost, keySize}
 use Rattle.rules.specs.Checks.{Check, _when_}
 use Rattle.rules.specs.Answers.{07·02, 07·03, 07·04}
 use Rattle.rules.specs.FrameLine.{byte, bytes, dword, bits}
 use Rattle.rules.specs.State.{namespace, keyTag}
-
--- an I/O command, as far as the drive looks at it
-pub record Command : Type 0 where
-  pub opcode : ℕ
-  pub ns : Namespace
-  pub first : ℕ
-  pub more : ℕ
-  pub cetype : ℕ
-  pub tag : Tag
 
 pub data Frame : Type 0 where
   manage : (ns : Namespace) (tags : ℕ) → Frame

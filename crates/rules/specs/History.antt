@@ -11,7 +11,8 @@ use Rattle.rules.specs.declared.Answer.{Answer}
 use Rattle.rules.specs.Answers.{accepted}
 use Rattle.rules.specs.State.{namespace, sameNamespace, sameTag}
 use Rattle.rules.specs.Slots.{Held, nothing, holding}
-use Rattle.rules.specs.Frames.{Command, Frame, manage, release, load, replace, clearOne, clearAll, io, setFeatures, getFeatures, bootWrite, reset, unknown}
+use Rattle.rules.specs.declared.Command.{Command}
+use Rattle.rules.specs.Frames.{Frame, manage, release, load, replace, clearOne, clearAll, io, setFeatures, getFeatures, bootWrite, reset, unknown}
 use Rattle.rules.specs.Order.{frameOf, isWrite, isPowerCycle}
 
 pub record Event : Type 0 where

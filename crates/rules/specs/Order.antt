@@ -19,7 +19,8 @@ use Rattle.rules.specs.State.{State, Outcome, Rule, obey, noNamespace, m
 use Rattle.rules.specs.Slots.{slot, empty, loaded, uidOf, held, otherKey}
 use Rattle.rules.specs.Marks.{blockOf, identityOf, differs}
 use Rattle.rules.specs.Locks.{invalidFields, notChangeable, changed, shown, partition, bothLocked, sameLock}
-use Rattle.rules.specs.Frames.{Command, Frame, readFrame}
+use Rattle.rules.specs.declared.Command.{Command}
+use Rattle.rules.specs.Frames.{Frame, readFrame}
 use Rattle.rules.specs.Frames as frames
 use Rattle.rules.specs.Effects.{setCount, storeKey, emptySlot, emptySlots, emptyAllSlots, zeroMarks, markCovered, withLocks, onlyWhen}
 

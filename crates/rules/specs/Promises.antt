@@ -19,7 +19,8 @@ use Rattle.rules.specs.Slots.{slot, nothing, holding, held}
 use Rattle.rules.specs.Marks.{identityOf}
 use Rattle.rules.specs.Sound.{unsound}
 use Rattle.rules.specs.Locks.{partition}
-use Rattle.rules.specs.Frames.{Command, Frame, manage, load, io, reset}
+use Rattle.rules.specs.declared.Command.{Command}
+use Rattle.rules.specs.Frames.{Frame, manage, load, io, reset}
 use Rattle.rules.specs.Order.{step, lineRule, frameOf, readingChecks, isReading, commandChecks, keyChecks}
 use Rattle.rules.specs.Start.{fresh}
 use Rattle.rules.specs.Call.{call}

@@ -3,7 +3,8 @@
 -- Assumes nothing.
 use mathlib.Core.Bool.{Bool, not, _&&_, cond}
 use mathlib.Core.List.{List, _∷_, _++_}
-use Prim.Native.Nat.{ℕ, _+_, _-_, _*_, _/_, _%_}
+use mathlib.Core.Path.{_≡_}
+use Prim.Native.Nat.{ℕ, _≤_, _+_, _-_, _*_, _/_, _%_}
 use lib.ListN.{length, getD}
 use lib.Dec.{eqb}
 use Rattle.cells.specs.Cells.{part, cell, zeros}
@@ -35,6 +36,12 @@ padded n xs = xs ++ zeros (n - length xs)
 
 unfoldable pub slotBytes : List ℕ → List ℕ → List ℕ
 slotBytes uid key = length uid ∷ (padded uidMost uid ++ key)
+
+-- KeyUID: 1 to 16 bytes. Key: exactly 32 bytes.
+pub record FitKey (uid key : List ℕ) : Type 0 where
+  pub some : 1 ≤ length uid
+  pub short : length uid ≤ uidMost
+  pub whole : length key ≡ keySize
 
 -- an emptied slot is all zero bytes
 abbrev pub emptied : List ℕ

@@ -42,6 +42,16 @@ pub struct Namespace(pub u32);
 // A key tag. The pair of a namespace and a tag names a slot.
 pub struct Tag(pub u16);
 
+// An I/O command, as far as the drive looks at it.
+pub struct Command {
+    pub opcode: u8,
+    pub ns: Namespace,
+    pub first: u64,
+    pub more: u16,
+    pub cetype: u32,
+    pub tag: Tag,
+}
+
 pub enum Lock {
     WriteUnlocked,
     WriteLocked,

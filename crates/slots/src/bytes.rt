@@ -111,7 +111,7 @@ pub fn clear_at(keys: &mut [u8], place: usize)
 // The n slots from first on emptied by one fill.
 pub fn clear_run(keys: &mut [u8], first: usize, n: usize)
     requires { ⌜ (length (now keys) ≡ cacheSize) × (first + n ≤ slotPlaces) ⌝ }
-    ensures { λ _. ⌜ now (keys .exit) ≡ fill slotWidth first n emptied (now (keys .entry)) ⌝ }
+    ensures { λ _. ⌜ (now (keys .exit) ≡ fill slotWidth first n emptied (now (keys .entry))) × (length (now (keys .entry)) ≡ cacheSize) ⌝ }
 {
     let a = first * SLOT;
     let e = a + n * SLOT;

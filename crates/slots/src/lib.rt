@@ -4,7 +4,8 @@ ghost use mathlib.Core.Bool.{_&&_};
 ghost use mathlib.Core.List.{[]};
 ghost use Rattle.cells.specs.Cells.{cell};
 ghost use Rattle.cells.specs.Tests.{same};
-ghost use Rattle.rules.specs.Numbers.{slotWidth};
+ghost use lib.ListN.{length};
+ghost use Rattle.rules.specs.Numbers.{slotWidth, cacheSize};
 ghost use Rattle.rules.specs.Slots.{loaded as isLoaded, uidOf, otherKey};
 ghost use Rattle.rules.specs.Sound.{unsound as isUnsound};
 ghost use Rattle.slots.specs.Cache.{stored, cleared, clearedNamespace, clearedAll};
@@ -40,9 +41,9 @@ pub fn other_key(keys: &Cache, uid: &[u8], key: &[u8]) -> bool
     scan::other_key_in(keys, uid, key)
 }
 
-// 07 0E: the paper's soundness scan.
+// 07 0E: the paper's soundness scan. Its contract also tells the length that the type fixes, for the callers' proofs.
 pub fn unsound(drive: Drive, keys: &Cache) -> bool
-    ensures { λ r. ⌜ r ≡ isUnsound (record { drive = drive; keys = now (keys .entry); marks = [] }) ⌝ }
+    ensures { λ r. ⌜ (r ≡ isUnsound (record { drive = drive; keys = now (keys .entry); marks = [] })) × (length (now (keys .entry)) ≡ cacheSize) ⌝ }
 {
     scan::unsound_in(drive, keys)
 }
@@ -73,8 +74,9 @@ pub fn clear_namespace(keys: &mut Cache, ns: Namespace)
     bytes::clear_run(keys, first, TAGS);
 }
 
+// Its contract also tells the length that the type fixes.
 pub fn clear_all(keys: &mut Cache)
-    ensures { λ _. ⌜ now (keys .exit) ≡ clearedAll (now (keys .entry)) ⌝ }
+    ensures { λ _. ⌜ (now (keys .exit) ≡ clearedAll (now (keys .entry))) × (length (now (keys .entry)) ≡ cacheSize) ⌝ }
 {
     bytes::clear_run(keys, 0, SLOTS);
 }

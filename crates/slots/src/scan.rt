@@ -89,7 +89,7 @@ pub fn counts_unsound(counts: [u8; NAMESPACES]) -> bool
 
 pub fn unsound_in(drive: Drive, keys: &[u8]) -> bool
     requires { ⌜ length (now keys) ≡ cacheSize ⌝ }
-    ensures { λ r. ⌜ r ≡ unsound (record { drive = drive; keys = now (keys .entry); marks = [] }) ⌝ }
+    ensures { λ r. ⌜ (r ≡ unsound (record { drive = drive; keys = now (keys .entry); marks = [] })) × (length (now (keys .entry)) ≡ cacheSize) ⌝ }
 {
     let counts = drive.counts;
     if counts_unsound(counts) {

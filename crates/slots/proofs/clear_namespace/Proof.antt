@@ -35,7 +35,7 @@ unfolding clearedNamespace
 returns-3 c =
     let s = c .before .before .before .before .before .args in
     let e : (s .ns .0 - 1) * tagsMost ≡ placeOf (s .ns) (keyTag 0) = omega arith in
-    c .clear-run .ensures
+    c .clear-run .ensures .0
     ∙ ap (λ i. fill slotWidth i tagsMost emptied (s .keys .now)) e
     ∙ (rw (le-ltb (s .ns .0) 1 (omega arith), le-ltb namespaces (s .ns .0) (omega arith)))
 

@@ -40,9 +40,11 @@ returns : tie.Need-returns
 returns c =
     let s = c .before .before .before .before .before .args in
     let a = s .first * slotWidth in
-    let n = s .n * slotWidth in
-    ap (λ v. take a (s .keys .now) ++ (v ++ drop (a + n - a) (drop a (s .keys .now)))) (c .before .before .fill-zero .ensures ∙ ap zeros (lent-length a n (s .keys .now) (omega arith)))
-    ∙ back-zeros slotWidth (s .first) (s .n) (s .keys .now)
+    let n = s .n * slotWidth in (
+      ap (λ v. take a (s .keys .now) ++ (v ++ drop (a + n - a) (drop a (s .keys .now)))) (c .before .before .fill-zero .ensures ∙ ap zeros (lent-length a n (s .keys .now) (omega arith)))
+          ∙ back-zeros slotWidth (s .first) (s .n) (s .keys .now),
+      c .before .before .before .before .before .pre .0,
+    )
 
 pub clear-run-spec : {M : Type 1} → statement M
 clear-run-spec =

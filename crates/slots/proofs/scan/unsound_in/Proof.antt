@@ -39,7 +39,7 @@ returns : tie.Need-returns Inv-loop μ-loop
 unfolding unsound
 returns c =
     let s = c .before .before .before .before .args in
-    ap (λ b. b || someCell slotWidth 0 slotPlaces (test (s .drive .counts)) (s .keys .now)) (sym (c .if1 .taken) ∙ c .before .counts-unsound .ensures)
+    (ap (λ b. b || someCell slotWidth 0 slotPlaces (test (s .drive .counts)) (s .keys .now)) (sym (c .if1 .taken) ∙ c .before .counts-unsound .ensures), c .before .before .before .before .pre)
 
 loop-holds : tie.Need-loop-holds Inv-loop μ-loop
 loop-holds c = (omega arith, some-start slotWidth _ 0 _, sym (c .before .counts-unsound .ensures) ∙ c .if1 .left)
@@ -56,7 +56,7 @@ returns-2 c =
     let s = c .before .before .before .before .before .before .before .before .args in
     let l = c .before .before .before .loop in
     let hit = answers (s .drive .counts) (s .keys .now) (l .place) _ true (c .before .slot-unsound .ensures) (c .if2 .taken) in
-    rw (l .inv .2) (some-hit slotWidth (test (s .drive .counts)) 0 slotPlaces (l .place) (s .keys .now) (omega arith) (omega arith) hit)
+    (rw (l .inv .2) (some-hit slotWidth (test (s .drive .counts)) 0 slotPlaces (l .place) (s .keys .now) (omega arith) (omega arith) hit), c .before .before .before .before .before .before .before .before .pre)
 
 add-place : tie.Need-add-place Inv-loop μ-loop
 add-place c = omega arith
@@ -79,7 +79,7 @@ returns-3 c =
     let s = c .before .before .before .before .before .before .args in
     let l = c .before .loop in
     let e : l .place ≡ slotPlaces = omega arith in
-    rw (l .inv .2) (sym (l .inv .1) ∙ ap (λ n. someCell slotWidth 0 n (test (s .drive .counts)) (s .keys .now)) e)
+    (rw (l .inv .2) (sym (l .inv .1) ∙ ap (λ n. someCell slotWidth 0 n (test (s .drive .counts)) (s .keys .now)) e), c .before .before .before .before .before .before .pre)
 
 pub unsound-in-spec : {M : Type 1} → statement M
 unsound-in-spec =

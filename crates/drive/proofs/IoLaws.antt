@@ -1,0 +1,276 @@
+-- I/O: where a known command leads, as an outcome; and the kept identity of a
+-- slot's key, which is the front of the slot's bytes.
+-- Assumes nothing.
+use mathlib.Core.Path.{_≡_, refl, sym, ap, _∙_}
+use mathlib.Core.Bool.{Bool, true, false, not, _&&_, _||_, cond, true≢false}
+use mathlib.Core.List.{List, [], _∷_, _++_, append-nil}
+use mathlib.Core.Logic.{⊎-elim, by-cases}
+use Prim.Native.Nat.{ℕ, _+_, _-_, _*_, _≤_, _<_}
+use native.Mathlib.Decide.{decLt}
+use native.Mathlib.Nat.{add-zero}
+use native.Mathlib.Omega.{arith}
+use lib.ListN.{length, take}
+use lib.Seq.{take-all, take-append-le, take-append-add, length-take-le}
+use lib.Dec.{ltb}
+use borrow.Author.Tests.{ltb-false, not-false, eqb-true, eq-eqb, le-leb}
+use Rattle.cells.specs.Cells.{part, zeros}
+use Rattle.cells.specs.Tests.{allZero}
+use Rattle.cells.proofs.CellsLaws.{length-part, length-cell, part-zeros, part-part, part-cell}
+use Rattle.cells.proofs.TestsLaws.{allZero-eq, true-or-false}
+use Rattle.rules.specs.declared.Command.{Command}
+use Rattle.rules.specs.declared.Drive.{Drive}
+use Rattle.rules.specs.declared.Refusal.{Refusal}
+use Rattle.rules.specs.declared.Answer.the-variants.{Done}
+use Rattle.rules.specs.Numbers.{blocksEach, uidMost, slotWidth, slotPlaces, identityMost, markWidth, markPlaces, storeSize}
+use Rattle.rules.specs.Checks.{Check, _when_, Verdict, passed, refused, firstRefusal, settle, judged, onlyIf, AllPass}
+use Rattle.rules.specs.Answers.{00·01, 00·0B, 00·28, 00·80}
+use Rattle.rules.specs.State.{State, Outcome, refuse, obey, noNamespace, managed, tagAbove}
+use Rattle.rules.specs.Slots.{placeOf, slot, padded, uidLength, empty, uidOf, held}
+use Rattle.rules.specs.Marks.{blockOf, keptIdentity, identityOf}
+use Rattle.rules.specs.Sound.{afterUid, slotUnsound}
+use Rattle.rules.specs.Effects.{markCovered, onlyWhen}
+use Rattle.rules.specs.Order.{command, isWrite, isReading, commandChecks, keyChecks, markCheck, wrongKey}
+use Rattle.rules.specs.Promises.{IsNamespace, IsSlot}
+use Rattle.rules.proofs.ChecksLaws.{judged-append, judged-cases}
+use Rattle.rules.proofs.StateLaws.{is-namespace}
+use Rattle.rules.proofs.SlotsLaws.{place-small}
+use Rattle.rules.proofs.SoundLaws.{long-is, rest-is, sound-slot}
+use Rattle.rules.proofs.EffectsLaws.{named-slot, slot-fits, length-held-identity}
+use Rattle.marks.specs.Store.{inStore, someDiffers, marked}
+use Rattle.drive.specs.declared.Access.{Access}
+use Rattle.drive.specs.declared.Access.the-variants.{Write, Reads, Neither}
+use Rattle.drive.specs.declared.Reach.{Reach}
+use Rattle.drive.specs.declared.Reach.the-variants.{Place, Unmanaged, Refused}
+use Rattle.drive.specs.Stepping.{state, Ready, accessOf, reached}
+use Rattle.drive.proofs.FieldsLaws.{part-join, part-byte}
+
+-- ------------------------------------------------------------------------
+-- What an opcode opens
+
+abbrev pub Opens : Bool → Bool → Access → Type 0
+Opens w r Write = w ≡ true
+Opens w r Reads = r ≡ true
+Opens w r Neither = w || r ≡ false
+
+opened : (w r : Bool) → Opens w r (cond w Write (cond r Reads Neither))
+opened true r = refl
+opened false true = refl
+opened false false = refl
+
+pub opens : (c : Command) (a : Access) → a ≡ accessOf (c .opcode) → Opens (isWrite c) (isReading c) a
+unfolding accessOf
+opens c a e = rw e (opened (isWrite c) (isReading c))
+
+-- ------------------------------------------------------------------------
+-- The kept identity in the slot
+
+-- the front of padded bytes is the front of the bytes, padded
+take-padded : (n m : ℕ) (xs : List ℕ) → n ≤ m → take n (padded m xs) ≡ padded n (take n xs)
+unfolding padded part zeros
+take-padded n m xs h =
+    by-cases (decLt n (length xs))
+    (λ l.
+    let e : n - length (take n xs) ≡ 0 = omega (arith, length-take-le n xs (omega arith)) in
+    take-append-le n xs (zeros (m - length xs)) (omega arith) ∙ (rw e (sym (append-nil (take n xs)))))
+    (λ l.
+    let e : length xs + (n - length xs) ≡ n = omega arith in
+    ap (λ k. take k (xs ++ zeros (m - length xs))) (sym e)
+    ∙ take-append-add xs (zeros (m - length xs)) (n - length xs)
+    ∙ ap (λ z. xs ++ z) (part-zeros 0 (n - length xs) (m - length xs) (omega arith))
+    ∙ ap (λ z. z ++ zeros (n - length z)) (sym (take-all n xs (omega arith))))
+
+module _ (c : List ℕ) (whole : length c ≡ slotWidth) (sound : slotUnsound false c ≡ false) (full : empty c ≡ false) where
+  short : uidLength c ≤ uidMost
+  short = by-cases (decLt uidMost (uidLength c)) (λ l. absurd (true≢false (long-is c false full l ∙ sound))) (λ l. omega arith)
+
+  uid-whole : length (uidOf c) ≡ uidLength c
+  unfolding uidOf
+  uid-whole = length-part 1 (uidLength c) c (omega (arith, short))
+
+  pad-zero : afterUid c ≡ zeros (uidMost - uidLength c)
+  pad-zero =
+      allZero-eq (afterUid c) (uidMost - uidLength c)
+      (length-part (1 + uidLength c) (uidMost - uidLength c) c (omega (arith, short)))
+      (not-false (allZero (afterUid c)) (rest-is c full short ∙ sound))
+
+  front : part 0 (1 + uidMost) c ≡ uidLength c ∷ padded uidMost (uidOf c)
+  unfolding padded uidOf
+  front =
+      let n : ℕ = uidLength c in
+      let e : uidMost ≡ n + (uidMost - n) = omega (arith, short) in
+      part-join 0 1 uidMost c
+      ∙ ap (λ z. z ++ part 1 uidMost c) (part-byte 0 c (omega arith))
+      ∙ ap (λ z. n ∷ z) (ap (λ k. part 1 k c) e ∙ part-join 1 n (uidMost - n) c ∙ ap (λ z. part 1 n c ++ z) pad-zero)
+      ∙ ap (λ k. n ∷ (uidOf c ++ zeros (uidMost - k))) (sym uid-whole)
+
+  kept-in : keptIdentity (uidOf c) ≡ part 0 markWidth c
+  unfolding keptIdentity part
+  kept-in =
+      ap (λ k. k ∷ padded identityMost (take identityMost (uidOf c))) uid-whole
+      ∙ ap (λ z. uidLength c ∷ z) (sym (take-padded identityMost uidMost (uidOf c) (omega arith)))
+      ∙ ap (part 0 markWidth) (sym front)
+      ∙ part-part 0 (1 + uidMost) 0 markWidth c (omega arith) (omega arith)
+
+  held-identity : identityOf (held c) ≡ part 0 markWidth c
+  unfolding held
+  held-identity = rw full kept-in
+
+-- ------------------------------------------------------------------------
+-- Where a known command leads, as an outcome
+
+settle-map : {A B C : Type 0} (g : B → C) (v : Verdict A) (f : A → B) (o : B) → g (settle v f o) ≡ settle v (λ a. g (f a)) (g o)
+settle-map g passed f o = refl
+settle-map g (refused a) f o = refl
+
+abbrev pub leads : State → Command → Reach → Outcome
+leads s c (Refused r) = refuse s r
+leads s c Unmanaged = record { answer = Done; state = s }
+leads s c (Place place) = judged (onlyIf (isReading c) (markCheck s c)) (refuse s) (record { answer = Done; state = onlyWhen (isWrite c) (markCovered s c) s })
+
+module _ (s : State) (c : Command) where
+  abbrev rangeChecks : List (Check Refusal)
+  rangeChecks =
+      00·0B when noNamespace (c .ns)
+      ∷ 00·80 when ltb blocksEach (c .first + c .more + 1)
+      ∷ []
+
+  -- the outcome after these, and where it leads, by whether the namespace is managed
+  abbrev later : Bool → Outcome
+  later m = judged (onlyIf m (keyChecks s c ++ onlyIf (isReading c) (markCheck s c))) (refuse s) (record { answer = Done; state = onlyWhen (m && isWrite c) (markCovered s c) s })
+
+  abbrev keyed : Bool → Reach
+  keyed m = cond m (judged (keyChecks s c) Refused (Place (placeOf (c .ns) (c .tag)))) Unmanaged
+
+  keyed-leads : (m : Bool) → later m ≡ leads s c (keyed m)
+  keyed-leads true =
+      judged-append (keyChecks s c) (onlyIf (isReading c) (markCheck s c)) (refuse s) (record { answer = Done; state = onlyWhen (isWrite c) (markCovered s c) s })
+      ∙ sym (settle-map (leads s c) (firstRefusal (keyChecks s c)) Refused (Place (placeOf (c .ns) (c .tag))))
+  keyed-leads false = refl
+
+  known-leads : isWrite c || isReading c ≡ true → obey s (command s c) ≡ leads s c (reached s c)
+  unfolding command reached
+  known-leads e =
+      judged-append (commandChecks c) (onlyIf (managed s (c .ns)) (keyChecks s c ++ onlyIf (isReading c) (markCheck s c))) (refuse s) _
+      ∙ ap (λ b. judged (00·01 when not b ∷ rangeChecks) (refuse s) (later (managed s (c .ns)))) e
+      ∙ ap (judged rangeChecks (refuse s)) (keyed-leads (managed s (c .ns)))
+      ∙ sym (settle-map (leads s c) (firstRefusal rangeChecks) Refused (keyed (managed s (c .ns))))
+
+  -- and one with another opcode
+  pub unknown-leads : isWrite c || isReading c ≡ false → obey s (command s c) ≡ refuse s 00·01
+  unfolding command
+  unknown-leads e = rw e
+
+-- ------------------------------------------------------------------------
+-- A command that reaches a slot
+
+never-place : (place : ℕ) (r : Refusal) → Refused r ≡ Place place → ⊥
+never-place place r e = let z : _≡_ {A = ℕ} 0 1 = cc in omega arith
+
+never-unmanaged : (place : ℕ) → Unmanaged ≡ Place place → ⊥
+never-unmanaged place e = let z : _≡_ {A = ℕ} 0 1 = cc in omega arith
+
+passed-all : (cs : List (Check Refusal)) (o : Reach) (place : ℕ) → judged cs Refused o ≡ Place place → AllPass cs × (o ≡ Place place)
+passed-all cs o place e =
+    ⊎-elim
+    (λ r. absurd (never-place place (r .0) (sym (r .1) ∙ e)))
+    (λ p. (p .0, sym (p .1) ∙ e))
+    (judged-cases cs Refused o)
+
+pub record Placed (s : State) (c : Command) (place : ℕ) : Type 0 where
+  pub at : placeOf (c .ns) (c .tag) ≡ place
+  pub namespace : IsNamespace (c .ns)
+  pub range : c .first + c .more + 1 ≤ blocksEach
+  pub tag : tagAbove s (c .ns) (c .tag) ≡ false
+  pub full : empty (slot s (c .ns) (c .tag)) ≡ false
+
+module _ (s : State) (c : Command) (place : ℕ) where
+  keys-passed : (m : Bool) → keyed s c m ≡ Place place → AllPass (keyChecks s c) × (placeOf (c .ns) (c .tag) ≡ place)
+  keys-passed true e = let p = passed-all (keyChecks s c) (Place (placeOf (c .ns) (c .tag))) place e in (p .0, cc)
+  keys-passed false e = absurd (never-unmanaged place e)
+
+  placed : Place place ≡ reached s c → Placed s c place
+  unfolding reached
+  placed e =
+      let p = passed-all (rangeChecks s c) (keyed s c (managed s (c .ns))) place (sym e) in
+      let k = keys-passed (managed s (c .ns)) (p .1) in
+      record {
+        at = k .1;
+        namespace = is-namespace (c .ns) (p .0 .0);
+        range = ltb-false blocksEach _ (p .0 .1 .0);
+        tag = k .0 .1 .0;
+        full = k .0 .1 .1 .0;
+      }
+
+-- `reach` does not look at the marks
+reached-marks : (drive : Drive) (keys marks : List ℕ) (c : Command) → reached (state drive keys []) c ≡ reached (state drive keys marks) c
+unfolding reached
+reached-marks drive keys marks c = refl
+
+-- ------------------------------------------------------------------------
+-- The ways of `write` and `read`
+
+module _ (c : Command) where
+  write-not-read : isWrite c ≡ true → isReading c ≡ false
+  write-not-read e = rw (eqb-true (c .opcode) 1 e)
+
+  read-not-write : isReading c ≡ true → isWrite c ≡ false
+  read-not-write e = true-or-false (isWrite c) (λ w. true≢false (sym e ∙ write-not-read w))
+
+module _ (drive : Drive) (keys marks : List ℕ) (c : Command) where
+  abbrev s : State
+  s = state drive keys marks
+
+  abbrev outcome : Outcome
+  outcome = obey s (command s c)
+
+  leads-is : isWrite c || isReading c ≡ true → {r : Reach} → r ≡ reached (state drive keys []) c → leads s c r ≡ outcome
+  leads-is e q = sym (known-leads s c e ∙ ap (leads s c) (sym (q ∙ reached-marks drive keys marks c)))
+
+  pub write-leads : isWrite c ≡ true → {r : Reach} → r ≡ reached (state drive keys []) c → leads s c r ≡ outcome
+  write-leads e = leads-is (rw e)
+
+  pub read-leads : isReading c ≡ true → {r : Reach} → r ≡ reached (state drive keys []) c → leads s c r ≡ outcome
+  read-leads e = leads-is (rw (read-not-write c e, e))
+
+  module _ {place : ℕ} (to : Place place ≡ reached (state drive keys []) c) where
+    pub lands : Placed s c place
+    lands = placed s c place (to ∙ reached-marks drive keys marks c)
+
+    module _ (ready : Ready drive keys marks) where
+      named : IsSlot (c .ns) (c .tag)
+      named = named-slot s (ready .sound) (c .ns) (c .tag) (lands .namespace) (lands .tag)
+
+      pub place-inside : place < slotPlaces
+      place-inside = rw (← lands .at) (place-small (c .ns) (c .tag) named)
+
+      -- the front of the slot is the kept identity of its key
+      identity-is : identityOf (held (slot s (c .ns) (c .tag))) ≡ part (place * slotWidth) markWidth keys
+      identity-is =
+          let fits = slot-fits s (ready .sized) (c .ns) (c .tag) named in
+          held-identity (slot s (c .ns) (c .tag)) (length-cell slotWidth (placeOf (c .ns) (c .tag)) keys fits) (rw (lands .tag) at (sound-slot s (ready .sound) (c .ns) (c .tag) named)) (lands .full)
+          ∙ part-cell slotWidth (placeOf (c .ns) (c .tag)) 0 markWidth keys fits (omega arith)
+          ∙ (rw (lands .at, add-zero))
+
+      in-store : inStore marks (blockOf (c .ns) (c .first)) (c .more + 1) ≡ true
+      in-store =
+          let p = lands in
+          let block : ℕ = blockOf (c .ns) (c .first) in
+          rw (eq-eqb (length marks) storeSize (ready .sized .store), le-leb block markPlaces (omega arith), le-leb (c .more + 1) (markPlaces - block) (omega arith))
+
+      covered-is : state drive keys (marked (blockOf (c .ns) (c .first)) (c .more + 1) (part (place * slotWidth) markWidth keys) marks) ≡ markCovered s c
+      unfolding marked markCovered
+      covered-is =
+          rw (in-store, eq-eqb (length (part (place * slotWidth) markWidth keys)) markWidth (ap length (sym identity-is) ∙ length-held-identity (held (slot s (c .ns) (c .tag)))), identity-is)
+
+      wrong-is : someDiffers (blockOf (c .ns) (c .first)) (c .more + 1) (part (place * slotWidth) markWidth keys) marks ≡ wrongKey s c
+      unfolding someDiffers wrongKey
+      wrong-is = rw (in-store, identity-is)
+
+      -- a write marks the blocks
+      pub written : isWrite c ≡ true → record { answer = Done; state = state drive keys (marked (blockOf (c .ns) (c .first)) (c .more + 1) (part (place * slotWidth) markWidth keys) marks) } ≡ outcome
+      written e = rw covered-is (rw (write-not-read c e, e) at (write-leads e to))
+
+      -- what reads is refused by the marks, or changes nothing
+      pub read-by : {b : Bool} → b ≡ someDiffers (blockOf (c .ns) (c .first)) (c .more + 1) (part (place * slotWidth) markWidth keys) marks → isReading c ≡ true
+          → judged (00·28 when b ∷ []) (refuse s) (record { answer = Done; state = s }) ≡ outcome
+      read-by q e = rw (q, wrong-is) (rw (e, read-not-write c e) at (read-leads e to))

@@ -1,0 +1,4 @@
+pub mod FieldsLaws
+pub mod IoLaws
+pub mod LineLaws
+pub mod SteppingLaws
