@@ -1,4 +1,5 @@
 pub mod FieldsLaws
 pub mod IoLaws
 pub mod LineLaws
+pub mod SessionLaws
 pub mod SteppingLaws

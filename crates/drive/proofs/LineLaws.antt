@@ -144,7 +144,7 @@ module _ (line frame last : List ℕ) (r : LineRead) (n : ℕ) (became : record 
   unframed z = read-nothing line n counted z
 
 -- an answer's line has at most 13 bytes
-answer-small : (a : Answer) → length (answerLine a) ≤ answerMost
+pub answer-small : (a : Answer) → length (answerLine a) ≤ answerMost
 unfolding answerLine digitsOf
 answer-small Done = omega arith
 answer-small (LockStates d) = omega arith

@@ -3,6 +3,7 @@
 ghost use mathlib.Core.Path.{_≡_};
 ghost use Rattle.rules.specs.Start.{start as started};
 ghost use Rattle.rules.specs.Call.{call};
+ghost use Rattle.rules.specs.Sessions.{session};
 ghost use Rattle.drive.specs.Stepping.{state, left};
 
 mod answers;
@@ -11,6 +12,7 @@ mod frame;
 mod io;
 mod keys;
 mod line;
+mod running;
 
 use rules::ANSWER;
 use rules::Answer;
@@ -106,5 +108,56 @@ pub fn answer_line(
         answer,
         drive,
         bytes,
+    }
+}
+
+// What a session leaves beside the stores: 0000 or the number that refused it, the small state, lines answered, bytes written.
+pub struct Session {
+    pub result: Answer,
+    pub drive: Drive,
+    pub lines: usize,
+    pub bytes: usize,
+}
+
+fn no_session(drive: Drive, r: Refusal) -> Session
+    ensures { λ x. ⌜ x ≡ record { result = Answer.Refused r; drive = drive; lines = 0; bytes = 0 } ⌝ }
+{
+    let result = Answer::Refused(r);
+    Session {
+        result,
+        drive,
+        lines: 0,
+        bytes: 0,
+    }
+}
+
+// A whole session: room for all its lines, the store and soundness are judged once.
+pub fn answer_session(
+    drive: Drive,
+    keys: &mut Cache,
+    marks: &mut [u8],
+    text: &[u8],
+    out: &mut [u8],
+) -> Session
+    ensures { λ r. ⌜ record { result = r .result; state = state (r .drive) (now (keys .exit)) (now (marks .exit)); lines = r .lines; bytes = r .bytes; out = now (out .exit) } ≡ session (state drive (now (keys .entry)) (now (marks .entry))) (now (text .entry)) (now (out .entry)) ⌝ }
+{
+    let n = running::count_lines(text);
+    if out.len() / ANSWER < n {
+        return no_session(drive, Refusal::OutputTooShort);
+    }
+    if marks.len() != STORE {
+        return no_session(drive, Refusal::WrongStore);
+    }
+    if slots::unsound(drive, keys) {
+        return no_session(drive, Refusal::UnsoundState);
+    }
+    let run = running::run(drive, keys, marks, text, out);
+    let drive = run.drive;
+    let result = Answer::Done;
+    Session {
+        result,
+        drive,
+        lines: run.lines,
+        bytes: run.bytes,
     }
 }

@@ -1,0 +1,25 @@
+-- What the session's own functions leave, in terms of the rules.
+-- Assumes nothing.
+use mathlib.Core.Path.{_≡_}
+use mathlib.Core.List.{List, _∷_}
+use Prim.Native.Nat.{ℕ, _-_, _≤_, _<_}
+use lib.ListN.{length, drop}
+use Rattle.cells.specs.Cells.{part}
+use Rattle.rules.specs.State.{State}
+use Rattle.rules.specs.Call.{written}
+use Rattle.rules.specs.Sessions.{linesOf, endState, answerLines}
+
+-- the line that starts at `at` ends at `end`, and the rest of the lines start at `next`
+pub record LineAt (text : List ℕ) (at end next : ℕ) : Type 0 where
+  pub starts : at ≤ end
+  pub ends : end ≤ length text
+  pub goes-on : at < next
+  pub within : next ≤ length text
+  pub splits : linesOf (drop at text) ≡ part at (end - at) text ∷ linesOf (drop next text)
+
+-- all the lines of a text were answered
+pub record Ran (s : State) (text out : List ℕ) (end : State) (lines bytes : ℕ) (last : List ℕ) : Type 0 where
+  pub state : end ≡ endState s (linesOf text)
+  pub counted : lines ≡ length (linesOf text)
+  pub wrote : bytes ≡ length (answerLines s (linesOf text))
+  pub output : last ≡ written (answerLines s (linesOf text)) out

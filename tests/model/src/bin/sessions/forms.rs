@@ -1,0 +1,241 @@
+//! What a line is and what an input is.
+
+use model::lines::*;
+
+use crate::folder::Folder;
+
+const GET: &str = "000012000000\n";
+
+pub fn add(folder: &mut Folder) {
+    few_digits(folder);
+    many_digits(folder);
+    bad_bytes(folder);
+    foreign_text(folder);
+    lower_case(folder);
+    carriage_returns(folder);
+    line_ends(folder);
+    kinds(folder);
+    unknown_kinds(folder);
+    input_of_line_feeds(folder);
+    input_of_one_line(folder);
+    input_of_frames(folder);
+    input_far_too_long(folder);
+}
+
+fn few_digits(folder: &mut Folder) {
+    let lines = [
+        ("", "0701"),
+        ("0", "0701"),
+        ("9", "0701"),
+        ("09", "000012000000"),
+        ("090", "0701"),
+        ("0900", "0703"),
+        ("01010", "0701"),
+        ("010101", "0000"),
+        ("0101010", "0701"),
+        ("0B0", "0701"),
+        ("0B00", "0000"),
+    ];
+    folder.add("line-few-digits", lines.map(|(line, answer)| (line.to_string(), answer)));
+}
+
+fn many_digits(folder: &mut Folder) {
+    let (old, new) = ("A1".repeat(16), "B1".repeat(16));
+    let longest = replace(1, 0, &old, &new, 0x22);
+    assert_eq!(longest.len(), 140);
+    folder.add(
+        "line-139-to-142-digits",
+        [
+            (manage(1, 1), "0000"),
+            (load(1, 0, &old, 0x11), "0000"),
+            (longest[..139].to_string(), "0701"),
+            (format!("{longest}0"), "0701"),
+            (format!("{longest}00"), "0701"),
+            (replace(1, 0, &old, &"B1".repeat(17), 0x22), "0701"),
+            (longest[..138].to_string(), "0703"),
+            (longest.clone(), "0000"),
+            (longest, "070B"),
+        ],
+    );
+    let zeros = |digits| "0".repeat(digits);
+    folder.add(
+        "line-unknown-kind-138-to-143-digits",
+        [
+            (zeros(138), "0702"),
+            (zeros(139), "0701"),
+            (zeros(140), "0702"),
+            (zeros(141), "0701"),
+            (zeros(142), "0701"),
+            (zeros(143), "0701"),
+            (zeros(1000), "0701"),
+            (zeros(1001), "0701"),
+        ],
+    );
+}
+
+fn bad_bytes(folder: &mut Folder) {
+    let is_bad = |byte: &u8| !b"0123456789ABCDEF\n".contains(byte);
+    let bad: Vec<u8> = (0..=255).filter(is_bad).collect();
+    assert_eq!(bad.len(), 239);
+    let answers = "0701\n".repeat(bad.len());
+    let first: Vec<u8> = bad.iter().flat_map(|&byte| [byte, b'9', b'\n']).collect();
+    let second: Vec<u8> = bad.iter().flat_map(|&byte| [b'0', byte, b'\n']).collect();
+    let third: Vec<u8> = bad.iter().flat_map(|&byte| [b'0', b'9', byte, b'\n']).collect();
+    folder.raw("line-every-bad-byte-as-first-digit", first, answers.clone());
+    folder.raw("line-every-bad-byte-as-second-digit", second, answers.clone());
+    folder.raw("line-every-bad-byte-behind-get-features", third, answers);
+
+    let command = read(1, 0, 0, 0);
+    let spoiled = |at: usize| format!("{}G{}", &command[..at], &command[at + 1..]);
+    folder.add(
+        "line-one-bad-digit-in-a-long-line",
+        [
+            (command.clone(), "0000"),
+            (spoiled(0), "0701"),
+            (spoiled(1), "0701"),
+            (spoiled(2), "0701"),
+            (spoiled(64), "0701"),
+            (spoiled(65), "0701"),
+            (spoiled(128), "0701"),
+            (spoiled(129), "0701"),
+        ],
+    );
+}
+
+const NO_FRAMES: &str = "\
+0x09| 09|09 |0 9|\t09|09\t|09h|+9|-9|0,9|'09'|# 09|09\0|\x0009|09;09|0O|O9|0l|:;|@A|FG|/0|0_9|\
+0B_00|GET|get features|09\u{B}09|09\u{C}09|09\u{85}09|09\u{2028}09|\u{FEFF}09|\u{FF10}\u{FF19}|\
+\u{660}\u{669}";
+
+fn foreign_text(folder: &mut Folder) {
+    let lines = NO_FRAMES.split('|').map(|line| (line.to_string(), "0701"));
+    folder.add("line-text-that-is-no-frame", lines);
+    let bytes = [b"\xA009\n".as_slice(), b"09\xA0\n", b"\xFF\xFE0\x009\x00\n", b"09\n"].concat();
+    folder.raw("line-other-encodings", bytes, format!("0701\n0701\n0701\n{GET}"));
+}
+
+fn lower_case(folder: &mut Folder) {
+    folder.add(
+        "line-lower-case",
+        [
+            (manage(1, 1), "0000"),
+            (load(1, 0, "aa", 0x11), "0701"),
+            (load(1, 0, "Aa", 0x11), "0701"),
+            (load(1, 0, "AA", 0x11).replace("11", "1a"), "0701"),
+            (clear_one(1, 0), "070A"),
+            (load(1, 0, "AA", 0xAB).to_lowercase(), "0701"),
+            (load(1, 0, "AA", 0xAB), "0000"),
+            (boot_write(0).to_lowercase(), "0701"),
+            (controller_reset().to_lowercase(), "0701"),
+            (power_cycle().to_lowercase(), "0701"),
+            (read(1, 0, 0, 0), "0000"),
+            ("0c".to_string(), "0701"),
+            ("ff".to_string(), "0701"),
+            ("0C".to_string(), "0702"),
+        ],
+    );
+}
+
+fn carriage_returns(folder: &mut Folder) {
+    folder.raw(
+        "line-carriage-return-line-feed",
+        "010101\r\n09\r\n0B01\r\n\r\n0\r\n010101\n09\n",
+        format!("{}0000\n{GET}", "0701\n".repeat(5)),
+    );
+    folder.raw("line-carriage-return-alone", "09\r09\r09\r", "0701\n");
+    folder.raw("line-line-feed-carriage-return", "09\n\r09\n\r", format!("{GET}0701\n0701\n"));
+}
+
+fn line_ends(folder: &mut Folder) {
+    folder.raw("line-last-without-line-feed", "010101\n09", format!("0000\n{GET}"));
+    folder.raw("line-only-one-without-line-feed", "09", GET);
+    folder.raw("line-last-odd-without-line-feed", "09\n0", format!("{GET}0701\n"));
+    folder.raw("line-last-empty", "09\n\n", format!("{GET}0701\n"));
+    folder.raw("line-first-empty", "\n09\n", format!("0701\n{GET}"));
+    folder.raw("line-empty-between", "09\n\n\n09\n", format!("{GET}0701\n0701\n{GET}"));
+    folder.raw("line-empty-then-without-line-feed", "\n\n09", format!("0701\n0701\n{GET}"));
+    folder.raw("input-empty", "", "");
+    folder.raw("input-one-line-feed", "\n", "0701\n");
+    folder.raw("input-two-line-feeds", "\n\n", "0701\n0701\n");
+    folder.raw("input-one-digit", "0", "0701\n");
+    folder.raw("input-one-nul", "\0", "0701\n");
+    folder.raw("input-one-carriage-return", "\r", "0701\n");
+}
+
+fn kinds(folder: &mut Folder) {
+    let answer = |kind| match kind {
+        0x09 => "000012000000",
+        0x01..=0x0B => "0703",
+        _ => "0702",
+    };
+    folder.add("kind-every-byte-alone", (0..=255).map(|kind| (hex(&[kind]), answer(kind))));
+    let answer = |kind| match kind {
+        // Kinds of two bytes: release and clear all of namespace 0, partition 0, controller level.
+        0x02 | 0x06 => "000B",
+        0x0A => "011E",
+        0x0B => "0000",
+        0x01..=0x0B => "0703",
+        _ => "0702",
+    };
+    folder.add("kind-every-byte-and-00", (0..=255).map(|kind| (hex(&[kind, 0]), answer(kind))));
+}
+
+fn unknown_kinds(folder: &mut Folder) {
+    for kind in [0x00, 0x0C, 0xFF] {
+        let lengths = |lengths: std::ops::RangeInclusive<usize>| {
+            lengths.map(move |length| (format!("{kind:02X}{}", "01".repeat(length - 1)), "0702"))
+        };
+        folder.add(format!("kind-{kind:02x}-of-1-to-60-bytes"), lengths(1..=60));
+        folder.add(format!("kind-{kind:02x}-of-61-to-70-bytes"), lengths(61..=70));
+    }
+    let others = [0x0C, 0x0D, 0x0F, 0x10, 0x11, 0x17, 0x19, 0x70, 0x7F, 0x80, 0x81, 0x90, 0xFE];
+    folder.add(
+        "kind-unknown-before-a-whole-command",
+        others.map(|kind: u8| (format!("{kind:02X}{}", &read(1, 0, 0, 0)[2..]), "0702")),
+    );
+}
+
+fn input_of_line_feeds(folder: &mut Folder) {
+    for bytes in [4095, 4096] {
+        let name = format!("input-{bytes}-line-feeds");
+        folder.raw(name, "\n".repeat(bytes), "0701\n".repeat(bytes));
+    }
+    for bytes in [4097, 4098] {
+        folder.raw(format!("input-{bytes}-line-feeds"), "\n".repeat(bytes), "070F\n");
+    }
+}
+
+fn input_of_one_line(folder: &mut Folder) {
+    for bytes in [4095, 4096, 4097, 4098] {
+        let answer = if bytes <= 4096 { "0701\n" } else { "070F\n" };
+        folder.raw(format!("input-{bytes}-digits"), "0".repeat(bytes), answer);
+        let line = "0".repeat(bytes - 1) + "\n";
+        folder.raw(format!("input-{bytes}-digits-and-line-feed"), line, answer);
+    }
+}
+
+fn input_of_frames(folder: &mut Folder) {
+    let gets = |times: usize| ("09\n".repeat(times), GET.repeat(times));
+    let (text, answers) = gets(1365);
+    assert_eq!(text.len(), 4095);
+    folder.raw("input-4095-of-get-features", text.clone(), answers.clone());
+    folder.raw("input-4096-last-line-empty", format!("{text}\n"), format!("{answers}0701\n"));
+    folder.raw("input-4096-last-line-odd", format!("{text}0"), format!("{answers}0701\n"));
+    folder.raw("input-4097-last-line-without-line-feed", format!("{text}09"), "070F\n");
+    folder.raw("input-4097-last-line-feed-too-many", format!("{text}\n\n"), "070F\n");
+    folder.raw("input-4098-of-get-features", format!("{text}09\n"), "070F\n");
+
+    let (text, answers) = gets(1364);
+    let (text, answers) = (format!("{text}\n\n09"), format!("{answers}0701\n0701\n{GET}"));
+    assert_eq!(text.len(), 4096);
+    folder.raw("input-4096-last-line-without-line-feed", text.clone(), answers);
+    folder.raw("input-4097-by-its-last-line-feed", format!("{text}\n"), "070F\n");
+}
+
+fn input_far_too_long(folder: &mut Folder) {
+    for bytes in [8192, 8193, 65536, 70000] {
+        folder.raw(format!("input-{bytes}-line-feeds"), "\n".repeat(bytes), "070F\n");
+    }
+    let text = format!("{}\n{}", manage(1, 1), "09\n".repeat(4096));
+    folder.raw("input-12295-of-good-frames", text, "070F\n");
+}

@@ -1,0 +1,15 @@
+//! The drive of the paper (`01-scope.md`), written from the paper alone as ordinary Rust.
+//!
+//! It shares nothing with the proved code: where the two differ, one of them misread the paper.
+
+mod boot;
+mod drive;
+mod frame;
+mod io;
+mod keys;
+pub mod lines;
+pub mod numbers;
+mod session;
+pub mod status;
+
+pub use drive::Drive;

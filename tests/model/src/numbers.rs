@@ -1,0 +1,33 @@
+//! The drive's numbers, each named once.
+
+pub const NAMESPACES: usize = 4;
+pub const BLOCKS: usize = 256;
+pub const POOL: usize = 64;
+pub const TAGS: usize = 32;
+
+pub const KEY_UID: usize = 16;
+pub const KEY: usize = 32;
+/// A slot's KeyUID length and its KeyUID padded with zeros.
+pub const HEAD: usize = 1 + KEY_UID;
+pub const SLOT: usize = HEAD + KEY;
+pub const KEYS: usize = NAMESPACES * TAGS * SLOT;
+
+pub const MARK: usize = 9;
+pub const STORE: usize = NAMESPACES * BLOCKS * MARK;
+
+pub const UNLOCKED: u8 = 1;
+pub const LOCKED: u8 = 2;
+pub const UNTIL_POWER_CYCLE: u8 = 3;
+
+/// The bytes of the longest frame, a replace with two KeyUIDs of 16.
+pub const FRAME: usize = 70;
+pub const COMMAND: usize = 64;
+/// The bytes of the longest answer line, which every line must have room for.
+pub const ROOM: usize = 13;
+
+/// Counts, locks and keys in one run of bytes.
+pub const IMAGE: usize = NAMESPACES + 2 + KEYS;
+
+/// The most the program reads, and room for as many lines as that can hold.
+pub const INPUT: usize = 4096;
+pub const OUTPUT: usize = INPUT * ROOM;

@@ -1,0 +1,98 @@
+//! What accepted frames do to state and marks, byte for byte.
+
+mod bench;
+
+use bench::Bench;
+use model::lines::*;
+use model::numbers::{BLOCKS, MARK, STORE};
+use model::Drive;
+
+const U9: &str = "A0A1A2A3A4A5A6A7A8";
+
+#[test]
+fn a_slot_holds_its_key_padded() {
+    let mut bench = Bench::new();
+    bench.accept(manage(2, 2));
+    bench.accept(load(2, 1, "AABB", 0x11));
+    let slot = &bench.drive.keys[(32 + 1) * 49..][..49];
+    assert_eq!(slot[..3], [2, 0xAA, 0xBB]);
+    assert_eq!(slot[3..17], [0; 14]);
+    assert_eq!(slot[17..], [0x11; 32]);
+    bench.accept(replace(2, 1, "AABB", "CC", 0x22));
+    let slot = &bench.drive.keys[(32 + 1) * 49..][..49];
+    assert_eq!(slot[..3], [1, 0xCC, 0]);
+    assert_eq!(slot[17..], [0x22; 32]);
+    bench.accept(clear_one(2, 1));
+    assert!(bench.drive.keys.iter().all(|&byte| byte == 0));
+}
+
+#[test]
+fn a_write_marks_the_covered_blocks_only() {
+    let mut bench = Bench::new();
+    bench.accept(manage(3, 1));
+    bench.accept(load(3, 0, U9, 0x11));
+    bench.accept(write(3, 0, 10, 1));
+    let mut marks = [0; STORE];
+    for block in [10, 11] {
+        let mark = [9, 0xA0, 0xA1, 0xA2, 0xA3, 0xA4, 0xA5, 0xA6, 0xA7];
+        marks[(2 * BLOCKS + block) * MARK..][..MARK].copy_from_slice(&mark);
+    }
+    assert_eq!(bench.marks, marks);
+}
+
+#[test]
+fn an_unmanaged_write_leaves_no_mark() {
+    let mut bench = Bench::new();
+    bench.accept(with(&write(4, 9, 0, 255), 50, 0));
+    assert_eq!(bench.marks, [0; STORE]);
+    assert_eq!(bench.drive, Drive::fresh());
+}
+
+#[test]
+fn release_takes_its_own_marks_and_slots_only() {
+    let mut bench = Bench::new();
+    for namespace in 1..=4 {
+        bench.accept(manage(namespace, 16));
+        bench.accept(load(namespace, 15, "AA", 0x11));
+        bench.accept(write(namespace.into(), 15, 0, 255));
+    }
+    let (drive, marks) = (bench.drive.clone(), bench.marks.clone());
+    bench.accept(release(2));
+    let (start, end) = (BLOCKS * MARK, 2 * BLOCKS * MARK);
+    assert_eq!(bench.marks[..start], marks[..start]);
+    assert_eq!(bench.marks[start..end], [0; BLOCKS * MARK]);
+    assert_eq!(bench.marks[end..], marks[end..]);
+    assert_eq!(bench.drive.counts, [16, 0, 16, 16]);
+    assert_eq!(bench.drive.keys[..32 * 49], drive.keys[..32 * 49]);
+    assert_eq!(bench.drive.keys[32 * 49..64 * 49], [0; 32 * 49]);
+    assert_eq!(bench.drive.keys[64 * 49..], drive.keys[64 * 49..]);
+}
+
+#[test]
+fn clearing_and_resets_keep_marks_and_counts() {
+    for line in [clear_one(1, 0), clear_all(1), power_cycle(), controller_reset()] {
+        let mut bench = Bench::new();
+        bench.accept(manage(1, 1));
+        bench.accept(load(1, 0, "AA", 0x11));
+        bench.accept(write(1, 0, 0, 255));
+        bench.accept(set_features(0x0B));
+        let (drive, marks) = (bench.drive.clone(), bench.marks.clone());
+        bench.accept(&line);
+        assert_eq!(bench.marks, marks);
+        assert_eq!(bench.drive.counts, drive.counts);
+        assert_eq!(bench.drive.keys == drive.keys, line == controller_reset());
+        assert_eq!(bench.drive.locks == [2, 2], line == power_cycle());
+    }
+}
+
+#[test]
+fn the_ninth_byte_is_not_kept() {
+    let mut bench = Bench::new();
+    bench.accept(manage(1, 3));
+    bench.accept(load(1, 0, U9, 0x11));
+    bench.accept(load(1, 1, "A0A1A2A3A4A5A6A7FF", 0x22));
+    bench.accept(load(1, 2, "A0A1A2A3A4A5A6A7", 0x33));
+    bench.accept(write(1, 0, 0, 0));
+    bench.accept(read(1, 1, 0, 0));
+    bench.refuse(read(1, 2, 0, 0), "0028");
+}

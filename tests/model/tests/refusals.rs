@@ -1,0 +1,299 @@
+//! Every row of the refusal table, each refusal seen to change nothing.
+
+mod bench;
+
+use bench::Bench;
+use model::lines::*;
+use model::numbers::{OUTPUT, SLOT, STORE, TAGS};
+use model::Drive;
+
+/// Namespace 1 with tags 0 and 1, tag 0 loaded, block 7 written with it.
+fn recorded() -> Bench {
+    let mut bench = Bench::new();
+    bench.accept(manage(1, 2));
+    bench.accept(load(1, 0, "AA", 0x11));
+    bench.accept(write(1, 0, 7, 0));
+    bench
+}
+
+#[test]
+fn opcode_0001() {
+    let mut bench = recorded();
+    for opcode in 0..=255 {
+        match opcode {
+            WRITE | READ | COMPARE | VERIFY => bench.accept(io(opcode, 1, 0, 0, 0)),
+            _ => bench.refuse(io(opcode, 1, 0, 0, 0), "0001"),
+        }
+    }
+}
+
+#[test]
+fn field_0002() {
+    let mut bench = recorded();
+    for cetype in (0..16).filter(|&cetype| cetype != 1) {
+        bench.refuse(with(&read(1, 0, 0, 0), 50, 0x10 | cetype), "0002");
+    }
+    bench.accept(with(&read(1, 0, 0, 0), 50, 0xF1));
+    for dword in [0x04, 0x07, 0x20, 0x38, 0x40, 0x8000_0000] {
+        bench.refuse(set_features(dword), "0002");
+    }
+    bench.refuse(boot_write(2), "0002");
+    bench.refuse("0B02", "0002");
+}
+
+#[test]
+fn namespace_000b() {
+    let mut bench = recorded();
+    for namespace in [0, 5, 255] {
+        bench.refuse(manage(namespace, 1), "000B");
+        bench.refuse(release(namespace), "000B");
+        bench.refuse(load(namespace, 0, "AA", 0x11), "000B");
+        bench.refuse(replace(namespace, 0, "AA", "BB", 0x22), "000B");
+        bench.refuse(clear_one(namespace, 0), "000B");
+        bench.refuse(clear_all(namespace), "000B");
+        bench.refuse(read(namespace.into(), 0, 0, 0), "000B");
+    }
+    bench.refuse(read(257, 0, 0, 0), "000B");
+    bench.refuse(read(u32::MAX, 0, 0, 0), "000B");
+}
+
+#[test]
+fn tag_0025() {
+    let mut bench = recorded();
+    for tag in [2, 256, u16::MAX] {
+        bench.refuse(load(1, tag, "BB", 0x22), "0025");
+        bench.refuse(replace(1, tag, "AA", "BB", 0x22), "0025");
+        bench.refuse(clear_one(1, tag), "0025");
+        bench.refuse(write(1, tag, 0, 0), "0025");
+    }
+    bench.refuse(write(1, 1, 0, 0), "0025");
+}
+
+#[test]
+fn wrong_key_0028() {
+    let mut bench = recorded();
+    bench.accept(load(1, 1, "BB", 0x22));
+    for opcode in [READ, COMPARE, VERIFY] {
+        bench.refuse(io(opcode, 1, 1, 7, 0), "0028");
+        bench.refuse(io(opcode, 1, 1, 0, 255), "0028");
+        bench.accept(io(opcode, 1, 1, 8, 0));
+    }
+    bench.accept(write(1, 1, 7, 0));
+    bench.refuse(read(1, 0, 7, 0), "0028");
+}
+
+#[test]
+fn a_mark_of_length_0_is_never_written() {
+    let mut bench = recorded();
+    bench.marks[1..9].fill(0xEE);
+    bench.accept(read(1, 0, 0, 0));
+    bench.marks[0] = 0xEE;
+    bench.refuse(read(1, 0, 0, 0), "0028");
+}
+
+#[test]
+fn blocks_0080() {
+    let mut bench = recorded();
+    bench.accept(read(1, 0, 0, 255));
+    for (first, field) in [(256, 0), (255, 1), (0, 256), (0, u16::MAX), (1 << 32, 0)] {
+        bench.refuse(read(1, 0, first, field), "0080");
+    }
+    for field in [0, 255, 256, u16::MAX] {
+        bench.refuse(write(1, 0, u64::MAX, field), "0080");
+        bench.refuse(write(1, 0, u64::MAX - 255, field), "0080");
+    }
+}
+
+#[test]
+fn boot_locks_010e_and_011e() {
+    let mut bench = Bench::new();
+    bench.refuse(boot_write(0), "011E");
+    bench.accept(set_features(0x19));
+    bench.accept(boot_write(0));
+    bench.refuse(boot_write(1), "011E");
+    for dword in [0x09, 0x0A, 0x10, 0x13] {
+        bench.refuse(set_features(dword), "010E");
+    }
+    bench.accept(set_features(0x1A));
+    assert_eq!(bench.drive.locks, [2, 3]);
+}
+
+#[test]
+fn not_a_frame_line_0701() {
+    let mut bench = Bench::new();
+    for line in ["", "0", "090", "0a00", " 09", "09\r", "09\n", "0G", "é"] {
+        bench.refuse(line, "0701");
+    }
+    bench.refuse("0".repeat(139), "0701");
+    bench.refuse("0".repeat(140), "0702");
+    bench.refuse("0".repeat(141), "0701");
+    bench.refuse("0".repeat(142), "0701");
+}
+
+#[test]
+fn kind_0702() {
+    let mut bench = Bench::new();
+    for kind in (0..=255).filter(|kind| !(1..=11).contains(kind)) {
+        bench.refuse(hex(&[kind]), "0702");
+        bench.refuse(hex(&[kind; 70]), "0702");
+    }
+}
+
+#[test]
+fn length_0703() {
+    let mut bench = recorded();
+    let frames = [manage(2, 1), release(1), clear_one(1, 0), clear_all(1), write(1, 0, 0, 0)];
+    let others = [set_features(9), get_features(), boot_write(0), power_cycle()];
+    let keyed = [load(1, 1, "BB", 0x22), replace(1, 0, "AA", "BB", 0x22)];
+    for frame in frames.iter().chain(&others).chain(&keyed) {
+        for bytes in 1..=70 {
+            let line = format!("{frame}{}", "00".repeat(70));
+            if bytes * 2 != frame.len() {
+                bench.refuse(&line[..bytes * 2], "0703");
+            }
+        }
+    }
+}
+
+#[test]
+fn key_uid_length_0704() {
+    let mut bench = recorded();
+    for length in (0..=255).filter(|length| !(1..=16).contains(length)) {
+        bench.refuse(format!("03010100{length:02X}"), "0704");
+        bench.refuse(format!("03010100{length:02X}{}", "00".repeat(65)), "0704");
+        bench.refuse(format!("04010000{length:02X}"), "0704");
+        bench.refuse(format!("0401000001AA{length:02X}"), "0704");
+        bench.refuse(format!("04010000{length:02X}{}", "00".repeat(65)), "0704");
+    }
+    bench.refuse(replace(1, 0, &"AA".repeat(16), &"AA".repeat(17), 0x22), "0701");
+}
+
+#[test]
+fn management_0705_to_0708() {
+    let mut bench = recorded();
+    bench.refuse(manage(1, 2), "0705");
+    bench.refuse(release(2), "0706");
+    bench.refuse(clear_all(2), "0706");
+    bench.refuse(load(2, 0, "AA", 0x11), "0706");
+    bench.refuse(replace(2, 0, "AA", "BB", 0x22), "0706");
+    bench.refuse(clear_one(2, 0), "0706");
+    for count in [0, 33, 255] {
+        bench.refuse(manage(2, count), "0707");
+    }
+    bench.accept(manage(2, 32));
+    bench.refuse(manage(3, 31), "0708");
+    bench.accept(manage(3, 30));
+}
+
+#[test]
+fn slots_0709_to_070c() {
+    let mut bench = recorded();
+    bench.refuse(load(1, 0, "BB", 0x22), "0709");
+    bench.refuse(load(1, 0, "AA", 0x11), "0709");
+    bench.refuse(clear_one(1, 1), "070A");
+    bench.refuse(replace(1, 1, "AA", "BB", 0x22), "070A");
+    for old in ["AB", "AA00", "AAAA"] {
+        bench.refuse(replace(1, 0, old, "BB", 0x22), "070B");
+    }
+    bench.refuse(load(1, 1, "AA", 0x12), "070C");
+    bench.refuse(replace(1, 0, "AA", "AA", 0x12), "070C");
+    bench.accept(replace(1, 0, "AA", "AA", 0x11));
+    bench.accept(load(1, 1, "AA00", 0x12));
+}
+
+/// The number that refuses both a line and a session, with nothing changed or written.
+fn refused_call(bench: &mut Bench, room: usize) -> u16 {
+    let (drive, marks) = (bench.drive.clone(), bench.marks.clone());
+    let mut out = vec![b'~'; room];
+    let (number, written) = bench.drive.line(&mut bench.marks, b"0B01", &mut out);
+    let session = bench.drive.session(&mut bench.marks, b"0B01\n", &mut out);
+    assert_eq!((session, written), ((number, 0, 0), 0));
+    assert!(bench.drive == drive && bench.marks == marks);
+    assert!(out.iter().all(|&byte| byte == b'~'));
+    number
+}
+
+#[test]
+fn store_070d() {
+    for length in [0, 1, STORE - 1, STORE + 1, 2 * STORE] {
+        let mut bench = recorded();
+        bench.marks = vec![0xEE; length];
+        assert_eq!(refused_call(&mut bench, 13), 0x070D);
+        assert_eq!(Drive::start(&mut bench.marks), (0x070D, Drive::fresh()));
+        assert!(bench.marks.iter().all(|&byte| byte == 0xEE));
+        let empty = bench.drive.session(&mut bench.marks, b"", &mut []);
+        assert_eq!(empty, (0x070D, 0, 0));
+    }
+}
+
+#[test]
+fn unsound_070e() {
+    let slot = |namespace: usize, tag: usize| ((namespace - 1) * TAGS + tag) * SLOT;
+    let spoils: [&dyn Fn(&mut Drive); 9] = [
+        &|drive| drive.counts[3] = 33,
+        &|drive| drive.counts = [255; 4],
+        &|drive| drive.counts = [2, 32, 31, 0],
+        &|drive| drive.keys[slot(1, 2)] = 1,
+        &|drive| drive.keys[slot(4, 31)] = 1,
+        &|drive| drive.keys[slot(1, 0)] = 17,
+        &|drive| drive.keys[slot(1, 0) + 16] = 1,
+        &|drive| drive.keys[slot(1, 1) + 1] = 1,
+        &|drive| drive.keys[slot(4, 31) + SLOT - 1] = 1,
+    ];
+    for spoil in spoils {
+        let mut bench = recorded();
+        assert!(bench.drive.sound());
+        spoil(&mut bench.drive);
+        assert!(!bench.drive.sound());
+        assert_eq!(refused_call(&mut bench, 13), 0x070E);
+    }
+    let mut bench = recorded();
+    bench.drive.counts = [2, 32, 30, 0];
+    bench.drive.keys[slot(1, 0)] = 16;
+    bench.drive.keys[slot(1, 0) + 1..slot(1, 1)].fill(0xEE);
+    assert!(bench.drive.sound());
+}
+
+#[test]
+fn output_070f() {
+    let mut bench = recorded();
+    assert_eq!(refused_call(&mut bench, 0), 0x070F);
+    assert_eq!(refused_call(&mut bench, 12), 0x070F);
+    let mut out = [0; OUTPUT];
+    for (text, lines) in [("", 0), ("\n", 1), ("09", 1), ("09\n\n", 2), ("\n\n09", 3)] {
+        let (drive, marks) = (&mut bench.drive, &mut bench.marks);
+        if lines > 0 {
+            let short = drive.session(marks, text.as_bytes(), &mut out[..13 * lines - 1]);
+            assert_eq!(short, (0x070F, 0, 0));
+        }
+        let enough = drive.session(marks, text.as_bytes(), &mut out[..13 * lines]);
+        assert_eq!((enough.0, enough.1), (0, lines));
+    }
+}
+
+#[test]
+fn room_before_store_before_soundness() {
+    let mut bench = recorded();
+    bench.drive.counts[0] = 33;
+    assert_eq!(refused_call(&mut bench, 13), 0x070E);
+    bench.marks.pop();
+    assert_eq!(refused_call(&mut bench, 13), 0x070D);
+    assert_eq!(refused_call(&mut bench, 12), 0x070F);
+}
+
+#[test]
+fn images() {
+    let bench = recorded();
+    let image = bench.drive.to_image();
+    assert_eq!(image[..6], [2, 0, 0, 0, 2, 2]);
+    assert_eq!(image[6..9], [1, 0xAA, 0]);
+    assert_eq!(Drive::from_image(&image), Some(bench.drive));
+    assert_eq!(Drive::from_image(&image[1..]), None);
+    assert_eq!(Drive::from_image(&[image.as_slice(), &[0]].concat()), None);
+    assert_eq!(Drive::from_image(&[]), None);
+    for (at, lock) in [(4, 0), (4, 4), (5, 0), (5, 255)] {
+        let mut image = image;
+        image[at] = lock;
+        assert_eq!(Drive::from_image(&image), None);
+    }
+}
