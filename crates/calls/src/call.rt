@@ -87,6 +87,59 @@ pub fn row(drive: Drive, keys: &mut Cache, marks: &mut Marks, label: &[u8], fram
     sized(drive, keys, marks, 9216, 20, label, frame)
 }
 
+// The same for a load with a KeyUID of one byte, and a key of 64 equal digits.
+pub fn load(
+    drive: Drive,
+    keys: &mut Cache,
+    marks: &mut Marks,
+    label: &[u8],
+    front: &[u8; 12],
+    digit: u8,
+) -> Drive {
+    let mut frame = [digit; 76];
+    bytes::keep(&mut frame, front);
+    row(drive, keys, marks, label, &frame)
+}
+
+// The same for a replace with KeyUIDs of one byte.
+pub fn replace(
+    drive: Drive,
+    keys: &mut Cache,
+    marks: &mut Marks,
+    label: &[u8],
+    front: &[u8; 16],
+    digit: u8,
+) -> Drive {
+    let mut frame = [digit; 80];
+    bytes::keep(&mut frame, front);
+    row(drive, keys, marks, label, &frame)
+}
+
+// The same for an I/O command, from a pair of digits each for opcode, namespace, first block, count, CETYPE and tag.
+pub fn command(
+    drive: Drive,
+    keys: &mut Cache,
+    marks: &mut Marks,
+    label: &[u8],
+    pairs: &[u8; 12],
+) -> Drive {
+    let mut frame = [b'0'; 130];
+    frame[1] = b'7';
+    frame[2] = pairs[0];
+    frame[3] = pairs[1];
+    frame[10] = pairs[2];
+    frame[11] = pairs[3];
+    frame[82] = pairs[4];
+    frame[83] = pairs[5];
+    frame[98] = pairs[6];
+    frame[99] = pairs[7];
+    frame[102] = pairs[8];
+    frame[103] = pairs[9];
+    frame[106] = pairs[10];
+    frame[107] = pairs[11];
+    row(drive, keys, marks, label, &frame)
+}
+
 // A call of start: number, whether the state is fresh, and whether the store of sevens stayed.
 fn begin(keys: &mut Cache, marks: &mut [u8], label: &[u8]) -> Drive {
     let left = drive::start(keys, marks);

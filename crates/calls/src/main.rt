@@ -1,7 +1,8 @@
-// Calls on the library that the session program cannot make: a line of text for each.
+// Calls on the library that the session program cannot make, and the table of refusals: a line of text for each.
 mod bytes;
 mod call;
 mod show;
+mod table;
 mod unsound;
 mod wrong;
 
@@ -23,4 +24,5 @@ fn main() {
     unsound::counts(&mut keys, &mut marks);
     unsound::slots(&mut keys, &mut marks);
     unsound::sound(&mut keys, &mut marks);
+    table::all(&mut keys, &mut marks);
 }
