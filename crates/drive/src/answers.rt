@@ -14,7 +14,7 @@ use rules::Refusal;
 use rules::TAGS;
 use rules::Tag;
 
-pub fn refused(drive: Drive, r: Refusal) -> Answered
+pub(crate) fn refused(drive: Drive, r: Refusal) -> Answered
     ensures { λ a. ⌜ a ≡ record { answer = Answer.Refused r; drive = drive } ⌝ }
 {
     Answered {
@@ -23,7 +23,7 @@ pub fn refused(drive: Drive, r: Refusal) -> Answered
     }
 }
 
-pub fn done(drive: Drive) -> Answered
+pub(crate) fn done(drive: Drive) -> Answered
     ensures { λ a. ⌜ a ≡ record { answer = Answer.Done; drive = drive } ⌝ }
 {
     Answered {
@@ -33,13 +33,13 @@ pub fn done(drive: Drive) -> Answered
 }
 
 // A namespace of one byte, as every kind but I/O has it.
-pub fn namespace_of(b: u8) -> Namespace
+pub(crate) fn namespace_of(b: u8) -> Namespace
     ensures { λ r. ⌜ r ≡ namespace b ⌝ }
 {
     Namespace(b as u32)
 }
 
-pub fn no_namespace(ns: Namespace) -> bool
+pub(crate) fn no_namespace(ns: Namespace) -> bool
     ensures { λ r. ⌜ r ≡ noNamespace ns ⌝ }
 {
     let n = ns.0 as usize;
@@ -49,7 +49,7 @@ pub fn no_namespace(ns: Namespace) -> bool
     n > NAMESPACES
 }
 
-pub fn count(drive: Drive, ns: Namespace) -> u8
+pub(crate) fn count(drive: Drive, ns: Namespace) -> u8
     requires { ⌜ IsNamespace ns ⌝ }
     ensures { λ r. ⌜ r ≡ countOf (state drive [] []) ns ⌝ }
 {
@@ -58,7 +58,7 @@ pub fn count(drive: Drive, ns: Namespace) -> u8
     counts[i]
 }
 
-pub fn locate(drive: Drive, ns: Namespace, tag: Tag) -> Found
+pub(crate) fn locate(drive: Drive, ns: Namespace, tag: Tag) -> Found
     ensures { λ r. ⌜ r ≡ located (state drive [] []) ns tag ⌝ }
 {
     if no_namespace(ns) {

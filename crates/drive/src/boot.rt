@@ -14,7 +14,7 @@ use rules::Drive;
 use rules::Refusal;
 
 // The drive lends its pair of locks to the routine that changes them where they lie.
-pub fn set_features(drive: Drive, dword11: u32) -> Answered
+pub(crate) fn set_features(drive: Drive, dword11: u32) -> Answered
     ensures { λ r. ⌜ ((keys marks : List ℕ) → left r keys marks ≡ obey (state drive keys marks) (setFeatures (state drive keys marks) dword11)) ⌝ }
 {
     let locks = drive.locks;
@@ -26,7 +26,7 @@ pub fn set_features(drive: Drive, dword11: u32) -> Answered
     Answered { answer, drive }
 }
 
-pub fn get_features(drive: Drive) -> Answered
+pub(crate) fn get_features(drive: Drive) -> Answered
     ensures { λ r. ⌜ ((keys marks : List ℕ) → left r keys marks ≡ obey (state drive keys marks) (getFeatures (state drive keys marks))) ⌝ }
 {
     let locks = drive.locks;
@@ -34,7 +34,7 @@ pub fn get_features(drive: Drive) -> Answered
     Answered { answer, drive }
 }
 
-pub fn boot_write(drive: Drive, partition: u8) -> Answered
+pub(crate) fn boot_write(drive: Drive, partition: u8) -> Answered
     ensures { λ r. ⌜ ((keys marks : List ℕ) → left r keys marks ≡ obey (state drive keys marks) (bootWrite (state drive keys marks) partition)) ⌝ }
 {
     let locks = drive.locks;
@@ -43,7 +43,7 @@ pub fn boot_write(drive: Drive, partition: u8) -> Answered
 }
 
 // 00 controller level, which changes nothing; 01 power cycle.
-pub fn reset(drive: Drive, keys: &mut Cache, level: u8) -> Answered
+pub(crate) fn reset(drive: Drive, keys: &mut Cache, level: u8) -> Answered
     ensures { λ r. ⌜ ((marks : List ℕ) → left r (now (keys .exit)) marks ≡ obey (state drive (now (keys .entry)) marks) (resetRule (state drive (now (keys .entry)) marks) level)) ⌝ }
 {
     if level > 1 {

@@ -185,7 +185,7 @@ fn on_reset(drive: Drive, keys: &mut Cache, f: &[u8]) -> Answered
 }
 
 // The first byte says which of eleven kinds a frame is.
-pub fn on_frame(drive: Drive, keys: &mut Cache, marks: &mut [u8], f: &[u8]) -> Answered
+pub(crate) fn on_frame(drive: Drive, keys: &mut Cache, marks: &mut [u8], f: &[u8]) -> Answered
     requires { ⌜ Ready drive (now keys) (now marks) × (0 < length (now f)) ⌝ }
     ensures { λ r. ⌜ left r (now (keys .exit)) (now (marks .exit)) ≡ onReading (state drive (now (keys .entry)) (now (marks .entry))) (readFrame (now (f .entry))) ⌝ }
 {

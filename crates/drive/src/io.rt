@@ -33,7 +33,7 @@ use rules::TAGS;
 use rules::Tag;
 
 // Two, four and eight bytes from at, the lowest first.
-pub fn word(f: &[u8], at: usize) -> u16
+pub(crate) fn word(f: &[u8], at: usize) -> u16
     requires { ⌜ at + 2 ≤ length (now f) ⌝ }
     ensures { λ r. ⌜ r ≡ little (part at 2 (now (f .entry))) ⌝ }
 {
@@ -42,7 +42,7 @@ pub fn word(f: &[u8], at: usize) -> u16
     low + 256 * high
 }
 
-pub fn dword(f: &[u8], at: usize) -> u32
+pub(crate) fn dword(f: &[u8], at: usize) -> u32
     requires { ⌜ at + 4 ≤ length (now f) ⌝ }
     ensures { λ r. ⌜ r ≡ little (part at 4 (now (f .entry))) ⌝ }
 {
@@ -51,7 +51,7 @@ pub fn dword(f: &[u8], at: usize) -> u32
     low + 65536 * high
 }
 
-pub fn qword(f: &[u8], at: usize) -> u64
+fn qword(f: &[u8], at: usize) -> u64
     requires { ⌜ at + 8 ≤ length (now f) ⌝ }
     ensures { λ r. ⌜ r ≡ little (part at 8 (now (f .entry))) ⌝ }
 {
@@ -61,7 +61,7 @@ pub fn qword(f: &[u8], at: usize) -> u64
 }
 
 // The fields of a 64-byte command. CETYPE is bits 19:16 of Dword 12.
-pub fn fields(c: &[u8]) -> Command
+pub(crate) fn fields(c: &[u8]) -> Command
     requires { ⌜ length (now c) ≡ 64 ⌝ }
     ensures { λ r. ⌜ r ≡ commandOf (now (c .entry)) ⌝ }
 {
@@ -76,7 +76,7 @@ pub fn fields(c: &[u8]) -> Command
     }
 }
 
-pub fn access(opcode: u8) -> Access
+fn access(opcode: u8) -> Access
     ensures { λ r. ⌜ r ≡ accessOf opcode ⌝ }
 {
     match opcode {
@@ -87,7 +87,7 @@ pub fn access(opcode: u8) -> Access
 }
 
 // The checks of a command with a known opcode, up to the marks. First block is a 64-bit number: it is tested before it is added to.
-pub fn reach(drive: Drive, keys: &Cache, c: Command) -> Reach
+fn reach(drive: Drive, keys: &Cache, c: Command) -> Reach
     ensures { λ r. ⌜ r ≡ reached (state drive (now (keys .entry)) []) c ⌝ }
 {
     if no_namespace(c.ns) {
@@ -181,7 +181,7 @@ fn read(drive: Drive, keys: &Cache, marks: &[u8], c: Command) -> Answered
 }
 
 // One I/O command. It leaves the keys as they are.
-pub fn command(drive: Drive, keys: &Cache, marks: &mut [u8], c: Command) -> Answered
+pub(crate) fn command(drive: Drive, keys: &Cache, marks: &mut [u8], c: Command) -> Answered
     requires { ⌜ Ready drive (now keys) (now marks) ⌝ }
     ensures { λ r. ⌜ left r (now (keys .entry)) (now (marks .exit)) ≡ obey (state drive (now (keys .entry)) (now (marks .entry))) (commandRule (state drive (now (keys .entry)) (now (marks .entry))) c) ⌝ }
 {

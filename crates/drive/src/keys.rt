@@ -57,7 +57,7 @@ fn with_count(drive: Drive, ns: Namespace, tags: u8) -> Drive
     Drive { counts, locks }
 }
 
-pub fn manage(drive: Drive, ns: Namespace, tags: u8) -> Answered
+pub(crate) fn manage(drive: Drive, ns: Namespace, tags: u8) -> Answered
     ensures { λ r. ⌜ ((keys marks : List ℕ) → left r keys marks ≡ obey (state drive keys marks) (manageRule (state drive keys marks) ns tags)) ⌝ }
 {
     if no_namespace(ns) {
@@ -80,7 +80,7 @@ pub fn manage(drive: Drive, ns: Namespace, tags: u8) -> Answered
     done(with_count(drive, ns, tags))
 }
 
-pub fn release(drive: Drive, keys: &mut Cache, marks: &mut [u8], ns: Namespace) -> Answered
+pub(crate) fn release(drive: Drive, keys: &mut Cache, marks: &mut [u8], ns: Namespace) -> Answered
     requires { ⌜ Ready drive (now keys) (now marks) ⌝ }
     ensures { λ r. ⌜ left r (now (keys .exit)) (now (marks .exit)) ≡ obey (state drive (now (keys .entry)) (now (marks .entry))) (releaseRule (state drive (now (keys .entry)) (now (marks .entry))) ns) ⌝ }
 {
@@ -95,7 +95,7 @@ pub fn release(drive: Drive, keys: &mut Cache, marks: &mut [u8], ns: Namespace) 
     done(with_count(drive, ns, 0))
 }
 
-pub fn clear_all(drive: Drive, keys: &mut Cache, ns: Namespace) -> Answered
+pub(crate) fn clear_all(drive: Drive, keys: &mut Cache, ns: Namespace) -> Answered
     ensures { λ r. ⌜ ((marks : List ℕ) → left r (now (keys .exit)) marks ≡ obey (state drive (now (keys .entry)) marks) (clearAllRule (state drive (now (keys .entry)) marks) ns)) ⌝ }
 {
     if no_namespace(ns) {
@@ -122,7 +122,7 @@ fn load_at(drive: Drive, keys: &mut Cache, place: usize, uid: &[u8], key: &[u8])
     done(drive)
 }
 
-pub fn load(
+pub(crate) fn load(
     drive: Drive,
     keys: &mut Cache,
     ns: Namespace,
@@ -163,7 +163,7 @@ fn replace_at(
     done(drive)
 }
 
-pub fn replace(
+pub(crate) fn replace(
     drive: Drive,
     keys: &mut Cache,
     ns: Namespace,
@@ -192,7 +192,7 @@ fn clear_at(drive: Drive, keys: &mut Cache, place: usize) -> Answered
     done(drive)
 }
 
-pub fn clear_one(drive: Drive, keys: &mut Cache, ns: Namespace, tag: Tag) -> Answered
+pub(crate) fn clear_one(drive: Drive, keys: &mut Cache, ns: Namespace, tag: Tag) -> Answered
     requires { ⌜ unsound (state drive (now keys) []) ≡ false ⌝ }
     ensures { λ r. ⌜ ((marks : List ℕ) → left r (now (keys .exit)) marks ≡ obey (state drive (now (keys .entry)) marks) (clearOneRule (state drive (now (keys .entry)) marks) ns tag)) ⌝ }
 {

@@ -36,20 +36,20 @@ pub struct Called {
 }
 
 // Where a namespace and a tag lead.
-pub enum Found {
+pub(crate) enum Found {
     Place(usize),
     Refused(Refusal),
 }
 
 // What an opcode does to the medium.
-pub enum Access {
+pub(crate) enum Access {
     Write,
     Reads,
     Neither,
 }
 
 // Where a known command leads.
-pub enum Reach {
+pub(crate) enum Reach {
     Place(usize),
     Unmanaged,
     Refused(Refusal),

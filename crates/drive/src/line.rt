@@ -24,7 +24,7 @@ fn bytes_read(read: LineRead) -> usize
     }
 }
 
-pub fn on_line(drive: Drive, keys: &mut Cache, marks: &mut [u8], line: &[u8]) -> Answered
+pub(crate) fn on_line(drive: Drive, keys: &mut Cache, marks: &mut [u8], line: &[u8]) -> Answered
     requires { ⌜ Ready drive (now keys) (now marks) ⌝ }
     ensures { λ r. ⌜ left r (now (keys .exit)) (now (marks .exit)) ≡ step (state drive (now (keys .entry)) (now (marks .entry))) (now (line .entry)) ⌝ }
 {

@@ -13,12 +13,12 @@ use rules::Drive;
 const LINE_FEED: u8 = 10;
 
 // A line of a text: where it ends, and where the next one starts.
-pub struct Line {
+pub(crate) struct Line {
     pub end: usize,
     pub next: usize,
 }
 
-pub struct Answers {
+pub(crate) struct Answers {
     pub drive: Drive,
     pub lines: usize,
     pub bytes: usize,
@@ -42,7 +42,7 @@ fn next_line(text: &[u8], at: usize) -> Line
     Line { end: i, next: i }
 }
 
-pub fn count_lines(text: &[u8]) -> usize
+pub(crate) fn count_lines(text: &[u8]) -> usize
     ensures { λ r. ⌜ r ≡ length (linesOf (now (text .entry))) ⌝ }
 {
     let mut at = 0;
@@ -56,7 +56,13 @@ pub fn count_lines(text: &[u8]) -> usize
 }
 
 // Answers each line; each answer goes to the part of the output that starts where the last one ended.
-pub fn run(drive: Drive, keys: &mut Cache, marks: &mut [u8], text: &[u8], out: &mut [u8]) -> Answers
+pub(crate) fn run(
+    drive: Drive,
+    keys: &mut Cache,
+    marks: &mut [u8],
+    text: &[u8],
+    out: &mut [u8],
+) -> Answers
     requires { ⌜ Ready drive (now keys) (now marks) × (length (linesOf (now text)) * answerMost ≤ length (now out)) ⌝ }
     ensures { λ r. ⌜ Ran (state drive (now (keys .entry)) (now (marks .entry))) (now (text .entry)) (now (out .entry)) (state (r .drive) (now (keys .exit)) (now (marks .exit))) (r .lines) (r .bytes) (now (out .exit)) ⌝ }
 {

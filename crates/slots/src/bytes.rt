@@ -13,7 +13,7 @@ use rules::SLOT;
 use rules::SLOTS;
 use rules::UID;
 
-pub fn loaded_at(keys: &[u8], place: usize) -> bool
+pub(crate) fn loaded_at(keys: &[u8], place: usize) -> bool
     requires { ⌜ length (now keys) ≡ cacheSize ⌝ }
     ensures { λ r. ⌜ r ≡ loaded (cell slotWidth place (now (keys .entry))) ⌝ }
 {
@@ -25,7 +25,7 @@ pub fn loaded_at(keys: &[u8], place: usize) -> bool
 }
 
 // Whether the slot's KeyUID is this one: lengths first. A length byte past the slot ends with the slot.
-pub fn same_uid(keys: &[u8], place: usize, uid: &[u8]) -> bool
+pub(crate) fn same_uid(keys: &[u8], place: usize, uid: &[u8]) -> bool
     requires { ⌜ (length (now keys) ≡ cacheSize) × (place < slotPlaces) ⌝ }
     ensures { λ r. ⌜ r ≡ same (uidOf (cell slotWidth place (now (keys .entry)))) (now (uid .entry)) ⌝ }
 {
@@ -41,7 +41,7 @@ pub fn same_uid(keys: &[u8], place: usize, uid: &[u8]) -> bool
 }
 
 // Whether the slot is loaded, with this KeyUID.
-pub fn holds_at(keys: &[u8], place: usize, uid: &[u8]) -> bool
+pub(crate) fn holds_at(keys: &[u8], place: usize, uid: &[u8]) -> bool
     requires { ⌜ length (now keys) ≡ cacheSize ⌝ }
     ensures { λ r. ⌜ r ≡ (loaded (cell slotWidth place (now (keys .entry))) && same (uidOf (cell slotWidth place (now (keys .entry)))) (now (uid .entry))) ⌝ }
 {
@@ -55,7 +55,7 @@ pub fn holds_at(keys: &[u8], place: usize, uid: &[u8]) -> bool
     same_uid(keys, place, uid)
 }
 
-pub fn same_key(keys: &[u8], place: usize, key: &[u8]) -> bool
+pub(crate) fn same_key(keys: &[u8], place: usize, key: &[u8]) -> bool
     requires { ⌜ (length (now keys) ≡ cacheSize) × (place < slotPlaces) ⌝ }
     ensures { λ r. ⌜ r ≡ same (keyOf (cell slotWidth place (now (keys .entry)))) (now (key .entry)) ⌝ }
 {
@@ -65,7 +65,7 @@ pub fn same_key(keys: &[u8], place: usize, key: &[u8]) -> bool
 }
 
 // A slot's bytes from a KeyUID and a key.
-pub fn set_slot(slot: &mut [u8], uid: &[u8], key: &[u8])
+fn set_slot(slot: &mut [u8], uid: &[u8], key: &[u8])
     requires { ⌜ (length (now slot) ≡ slotWidth) × (length (now uid) ≤ uidMost) × (length (now key) ≡ keySize) ⌝ }
     ensures { λ _. ⌜ now (slot .exit) ≡ slotBytes (now (uid .entry)) (now (key .entry)) ⌝ }
 {
@@ -78,7 +78,7 @@ pub fn set_slot(slot: &mut [u8], uid: &[u8], key: &[u8])
     cells::copy(&mut slot[k..SLOT], key);
 }
 
-pub fn store_at(keys: &mut [u8], place: usize, uid: &[u8], key: &[u8])
+pub(crate) fn store_at(keys: &mut [u8], place: usize, uid: &[u8], key: &[u8])
     requires { ⌜ length (now keys) ≡ cacheSize ⌝ }
     ensures { λ _. ⌜ now (keys .exit) ≡ stored place (now (uid .entry)) (now (key .entry)) (now (keys .entry)) ⌝ }
 {
@@ -96,7 +96,7 @@ pub fn store_at(keys: &mut [u8], place: usize, uid: &[u8], key: &[u8])
     set_slot(&mut keys[a..e], uid, key);
 }
 
-pub fn clear_at(keys: &mut [u8], place: usize)
+pub(crate) fn clear_at(keys: &mut [u8], place: usize)
     requires { ⌜ length (now keys) ≡ cacheSize ⌝ }
     ensures { λ _. ⌜ now (keys .exit) ≡ cleared place (now (keys .entry)) ⌝ }
 {
@@ -109,7 +109,7 @@ pub fn clear_at(keys: &mut [u8], place: usize)
 }
 
 // The n slots from first on emptied by one fill.
-pub fn clear_run(keys: &mut [u8], first: usize, n: usize)
+pub(crate) fn clear_run(keys: &mut [u8], first: usize, n: usize)
     requires { ⌜ (length (now keys) ≡ cacheSize) × (first + n ≤ slotPlaces) ⌝ }
     ensures { λ _. ⌜ (now (keys .exit) ≡ fill slotWidth first n emptied (now (keys .entry))) × (length (now (keys .entry)) ≡ cacheSize) ⌝ }
 {

@@ -20,7 +20,7 @@ use rules::SLOTS;
 use rules::TAGS;
 use rules::UID;
 
-pub fn other_key_at(keys: &[u8], place: usize, uid: &[u8], key: &[u8]) -> bool
+fn other_key_at(keys: &[u8], place: usize, uid: &[u8], key: &[u8]) -> bool
     requires { ⌜ (length (now keys) ≡ cacheSize) × (place < slotPlaces) ⌝ }
     ensures { λ r. ⌜ r ≡ otherKeyIn (now (uid .entry)) (now (key .entry)) (cell slotWidth place (now (keys .entry))) ⌝ }
 {
@@ -34,7 +34,7 @@ pub fn other_key_at(keys: &[u8], place: usize, uid: &[u8], key: &[u8]) -> bool
     false
 }
 
-pub fn other_key_in(keys: &[u8], uid: &[u8], key: &[u8]) -> bool
+pub(crate) fn other_key_in(keys: &[u8], uid: &[u8], key: &[u8]) -> bool
     requires { ⌜ length (now keys) ≡ cacheSize ⌝ }
     ensures { λ r. ⌜ r ≡ otherKey (now (keys .entry)) (now (uid .entry)) (now (key .entry)) ⌝ }
 {
@@ -49,7 +49,7 @@ pub fn other_key_in(keys: &[u8], uid: &[u8], key: &[u8]) -> bool
 }
 
 // Whether a slot of a namespace with this tag count is unsound.
-pub fn slot_unsound(keys: &[u8], place: usize, count: u8) -> bool
+fn slot_unsound(keys: &[u8], place: usize, count: u8) -> bool
     requires { ⌜ (length (now keys) ≡ cacheSize) × (place < slotPlaces) ⌝ }
     ensures { λ r. ⌜ r ≡ slotUnsound (leb count (place % tagsMost)) (cell slotWidth place (now (keys .entry))) ⌝ }
 {
@@ -71,7 +71,7 @@ pub fn slot_unsound(keys: &[u8], place: usize, count: u8) -> bool
 }
 
 // A count above what a namespace may hold, or more in all than the pool has.
-pub fn counts_unsound(counts: [u8; NAMESPACES]) -> bool
+fn counts_unsound(counts: [u8; NAMESPACES]) -> bool
     ensures { λ r. ⌜ r ≡ (someAbove tagsMost counts || ltb poolSlots (total counts)) ⌝ }
 {
     let mut sum: usize = 0;
@@ -87,7 +87,7 @@ pub fn counts_unsound(counts: [u8; NAMESPACES]) -> bool
     sum > POOL
 }
 
-pub fn unsound_in(drive: Drive, keys: &[u8]) -> bool
+pub(crate) fn unsound_in(drive: Drive, keys: &[u8]) -> bool
     requires { ⌜ length (now keys) ≡ cacheSize ⌝ }
     ensures { λ r. ⌜ (r ≡ unsound (record { drive = drive; keys = now (keys .entry); marks = [] })) × (length (now (keys .entry)) ≡ cacheSize) ⌝ }
 {
