@@ -1,48 +1,63 @@
-// What a call left, as one line of text.
+// What a call left, as text.
+use crate::ROOM;
+use libc::STDOUT_FILENO;
 use rules::Answer;
 use rules::Drive;
 use rules::Lock;
+use rules::NAMESPACES;
 
 pub fn text(s: &[u8]) {
-    io::write_all(1, s);
+    io::write_all(STDOUT_FILENO, s);
 }
 
-// A digit of a number's hexadecimal form.
-fn digit(n: u16) {
+const BASE: u16 = 16;
+
+// The last digit of a number's hexadecimal form.
+fn digit(n: u16) -> u8 {
     let all = b"0123456789ABCDEF";
-    let i = (n % 16) as usize;
-    let one = [all[i]];
-    text(&one);
+    let i = (n % BASE) as usize;
+    all[i]
 }
 
 // The answer's number, as four digits.
 pub fn number(answer: Answer) {
     let n = digits::number(answer);
-    digit(n / 4096);
-    digit(n / 256);
-    digit(n / 16);
-    digit(n);
+    let four = [
+        digit(n / BASE / BASE / BASE),
+        digit(n / BASE / BASE),
+        digit(n / BASE),
+        digit(n),
+    ];
+    text(&four);
 }
 
-// The digits of an answer's line, with a stroke for the line feed at the end.
-fn digits_of(out: &[u8], last: usize) {
+// An answer's line, with a stroke for the line feed at the end.
+fn written(out: &[u8], last: usize) {
     if last >= out.len() {
         return;
     }
     text(b" ");
-    text(&out[..last]);
+    text(&out[0..last]);
     if out[last] == b'\n' {
         text(b"/");
     }
 }
 
-// The bytes written: how many, and which.
-pub fn written(out: &[u8], bytes: usize) {
-    io::print_decimal(1, bytes as u64);
+// The answer's number, how many bytes were written, and which.
+pub fn answer(answer: Answer, out: &[u8], bytes: usize) {
+    number(answer);
+    text(b" ");
+    io::print_decimal(STDOUT_FILENO, bytes as u64);
     if bytes == 0 {
         return;
     }
-    digits_of(out, bytes - 1);
+    written(out, bytes - 1);
+}
+
+pub fn where_so(what: &[u8], so: bool) {
+    if so {
+        text(what);
+    }
 }
 
 pub fn same_or_changed(what: &[u8], same: bool) {
@@ -54,6 +69,24 @@ pub fn same_or_changed(what: &[u8], same: bool) {
     text(b" changed");
 }
 
+fn same_from(a: &[u8], b: &[u8], from: usize) -> bool {
+    if from > a.len() {
+        return false;
+    }
+    if from > b.len() {
+        return false;
+    }
+    cells::equal(&a[from..], &b[from..])
+}
+
+// Whether the output past the bytes written still has the dots that it had.
+pub fn rest(out: &[u8], bytes: usize) {
+    let dots = [b'.'; ROOM];
+    let same = same_from(out, &dots, bytes);
+    same_or_changed(b" rest", same);
+    text(b"\n");
+}
+
 fn lock_number(lock: Lock) -> u8 {
     match lock {
         Lock::WriteUnlocked => 1,
@@ -62,8 +95,8 @@ fn lock_number(lock: Lock) -> u8 {
     }
 }
 
-// The small state as six bytes: the counts, then the locks.
-pub fn small(drive: Drive) -> [u8; 6] {
+// The small state as bytes: the counts, then the locks.
+pub fn drive(drive: Drive) -> [u8; NAMESPACES + 2] {
     let counts = drive.counts;
     let locks = drive.locks;
     let zero = locks.partition0;

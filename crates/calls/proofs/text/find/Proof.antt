@@ -1,14 +1,16 @@
+-- `find` meets its contract: i stays within the text.
+-- Assumes nothing.
 use borrow.Author.Needs.{needs}
 use Prim.Native.Nat.{_-_, _≤_}
 use lib.ListN.{length}
-use Rattle.calls.proofs.bytes.filled_from.Statement.{statement}
-use Rattle.calls.proofs.bytes.filled_from.Tie as tie
+use Rattle.calls.proofs.text.find.Statement.{statement}
+use Rattle.calls.proofs.text.find.Tie as tie
 
 abbrev Inv-loop : tie.InvT-loop
-Inv-loop part from w i₀ i = 0 ≤ i
+Inv-loop text from byte i₀ i = (from ≤ i) × (i ≤ length text)
 
 abbrev μ-loop : tie.MeasureT-loop
-μ-loop part from w i₀ i = length part - i
+μ-loop text from byte i₀ i = length text - i
 
 loop-holds : tie.Need-loop-holds Inv-loop μ-loop
 loop-holds c = search needs
@@ -31,8 +33,8 @@ loop-again c = search needs
 returns-2 : tie.Need-returns-2 Inv-loop μ-loop
 returns-2 c = search needs
 
-pub filled-from-spec : {M : Type 1} → statement M
-filled-from-spec =
+pub find-spec : {M : Type 1} → statement M
+find-spec =
     tie.close
     (tie.spec
     Inv-loop
