@@ -1,0 +1,111 @@
+-- Every public function's theorem, as its own proof gives it.
+-- Assumes nothing.
+use Rattle.cells.proofs.fill_zero.Met as cells-fill-zero
+use Rattle.cells.proofs.copy.Met as cells-copy
+use Rattle.cells.proofs.equal.Met as cells-equal
+use Rattle.cells.proofs.all_zero.Met as cells-all-zero
+use Rattle.digits.proofs.read_line.Met as digits-read-line
+use Rattle.digits.proofs.number.Met as digits-number
+use Rattle.digits.proofs.write_answer.Met as digits-write-answer
+use Rattle.slots.proofs.loaded.Met as slots-loaded
+use Rattle.slots.proofs.holds_uid.Met as slots-holds-uid
+use Rattle.slots.proofs.other_key.Met as slots-other-key
+use Rattle.slots.proofs.unsound.Met as slots-unsound
+use Rattle.slots.proofs.store.Met as slots-store
+use Rattle.slots.proofs.clear.Met as slots-clear
+use Rattle.slots.proofs.clear_namespace.Met as slots-clear-namespace
+use Rattle.slots.proofs.clear_all.Met as slots-clear-all
+use Rattle.marks.proofs.some_differs.Met as marks-some-differs
+use Rattle.marks.proofs.mark.Met as marks-mark
+use Rattle.marks.proofs.zero_namespace.Met as marks-zero-namespace
+use Rattle.locks.proofs.decide.Met as locks-decide
+use Rattle.locks.proofs.shown.Met as locks-shown
+use Rattle.locks.proofs.boot_write.Met as locks-boot-write
+use Rattle.locks.proofs.both_locked.Met as locks-both-locked
+use Rattle.locks.proofs.set_locks.Met as locks-set-locks
+use Rattle.locks.proofs.set_features.Met as locks-set-features
+use Rattle.drive.proofs.start.Met as drive-start
+use Rattle.drive.proofs.answer_line.Met as drive-answer-line
+use Rattle.drive.proofs.answer_session.Met as drive-answer-session
+use Rattle.promises.specs.Defined.{Defined}
+
+pub defined : {M : Type 1} → Defined M
+defined = (
+  cells-fill-zero.met,
+  (
+    cells-copy.met,
+    (
+      cells-equal.met,
+      (
+        cells-all-zero.met,
+        (
+          digits-read-line.met,
+          (
+            digits-number.met,
+            (
+              digits-write-answer.met,
+              (
+                slots-loaded.met,
+                (
+                  slots-holds-uid.met,
+                  (
+                    slots-other-key.met,
+                    (
+                      slots-unsound.met,
+                      (
+                        slots-store.met,
+                        (
+                          slots-clear.met,
+                          (
+                            slots-clear-namespace.met,
+                            (
+                              slots-clear-all.met,
+                              (
+                                marks-some-differs.met,
+                                (
+                                  marks-mark.met,
+                                  (
+                                    marks-zero-namespace.met,
+                                    (
+                                      locks-decide.met,
+                                      (
+                                        locks-shown.met,
+                                        (
+                                          locks-boot-write.met,
+                                          (
+                                            locks-both-locked.met,
+                                            (
+                                              locks-set-locks.met,
+                                              (
+                                                locks-set-features.met,
+                                                (
+                                                  drive-start.met,
+                                                  (
+                                                    drive-answer-line.met,
+                                                    drive-answer-session.met,
+                                                  ),
+                                                ),
+                                              ),
+                                            ),
+                                          ),
+                                        ),
+                                      ),
+                                    ),
+                                  ),
+                                ),
+                              ),
+                            ),
+                          ),
+                        ),
+                      ),
+                    ),
+                  ),
+                ),
+              ),
+            ),
+          ),
+        ),
+      ),
+    ),
+  ),
+)

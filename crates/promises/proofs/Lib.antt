@@ -1,0 +1,4 @@
+pub mod Tight
+pub mod LeavesLaws
+pub mod Demands
+pub mod Defined

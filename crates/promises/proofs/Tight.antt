@@ -1,0 +1,116 @@
+-- Every public contract is tight: it asks nothing, and two outcomes that it
+-- allows both equal what a definition gives for the entry values.
+-- Assumes nothing.
+use mathlib.Core.Path.{_≡_, sym, ap, _∙_}
+use mathlib.Core.List.{List}
+use base.Logic.{emp, id⊢}
+use contract.Monad.{conjL, conjR, fact-use, factI}
+use Prim.Native.Nat.{ℕ}
+use Rattle.rules.specs.declared.Answer.{Answer}
+use Rattle.rules.specs.declared.BootLocks.{BootLocks}
+use Rattle.rules.specs.State.{Outcome}
+use Rattle.rules.specs.Call.{Called as CallLeft}
+use Rattle.rules.specs.Sessions.{Session as SessionLeft}
+use Rattle.digits.specs.Digits.{ReadInto, Wrote}
+use Rattle.drive.specs.declared.Answered.{Answered}
+use Rattle.drive.specs.declared.Called.{Called}
+use Rattle.drive.specs.declared.Session.{Session}
+use Rattle.promises.specs.Tight.{Tight-cells-fill-zero, Tight-cells-copy, Tight-cells-equal, Tight-cells-all-zero, Tight-digits-read-line, Tight-digits-number, Tight-digits-write-answer, Tight-slots-loaded, Tight-slots-holds-uid, Tight-slots-other-key, Tight-slots-unsound, Tight-slots-store, Tight-slots-clear, Tight-slots-clear-namespace, Tight-slots-clear-all, Tight-marks-some-differs, Tight-marks-mark, Tight-marks-zero-namespace, Tight-locks-decide, Tight-locks-shown, Tight-locks-boot-write, Tight-locks-both-locked, Tight-locks-set-features, Tight-locks-set-locks, Tight-drive-start, Tight-drive-answer-line, Tight-drive-answer-session}
+
+-- the law: what two outcomes both equal, they share
+one : {A : Type 0} {x y z : A} → x ≡ z → y ≡ z → x ≡ y
+one p q = p ∙ sym q
+
+pub tight-cells-fill-zero : Tight-cells-fill-zero
+tight-cells-fill-zero = (λ κs args. tt, λ κs args r r′ e e′ p q. one p q)
+
+pub tight-cells-copy : Tight-cells-copy
+tight-cells-copy = (λ κs args. tt, λ κs args r r′ e e′ p q. one p q)
+
+pub tight-cells-equal : Tight-cells-equal
+tight-cells-equal = (λ κs args. tt, λ κs args r r′ e e′ p q. one p q)
+
+pub tight-cells-all-zero : Tight-cells-all-zero
+tight-cells-all-zero = (λ κs args. tt, λ κs args r r′ e e′ p q. one p q)
+
+pub tight-digits-read-line : Tight-digits-read-line
+tight-digits-read-line = (λ κs args. tt, λ κs args r r′ e e′ p q. ap (λ (w : ReadInto). (w .read, w .frame)) (one p q))
+
+pub tight-digits-number : Tight-digits-number
+tight-digits-number = (λ κs args. tt, λ κs args r r′ e e′ p q. one p q)
+
+pub tight-digits-write-answer : Tight-digits-write-answer
+tight-digits-write-answer = (λ κs args. tt, λ κs args r r′ e e′ p q. ap (λ (w : Wrote). (w .bytes, w .out)) (one p q))
+
+pub tight-slots-loaded : Tight-slots-loaded
+tight-slots-loaded = (λ κs args. tt, λ κs args r r′ e e′ p q. one p q)
+
+pub tight-slots-holds-uid : Tight-slots-holds-uid
+tight-slots-holds-uid = (λ κs args. tt, λ κs args r r′ e e′ p q. one p q)
+
+pub tight-slots-other-key : Tight-slots-other-key
+tight-slots-other-key = (λ κs args. tt, λ κs args r r′ e e′ p q. one p q)
+
+pub tight-slots-unsound : Tight-slots-unsound
+tight-slots-unsound = (λ κs args. tt, λ κs args r r′ e e′ p q. one (p .0) (q .0))
+
+pub tight-slots-store : Tight-slots-store
+tight-slots-store = (λ κs args. tt, λ κs args r r′ e e′ p q. one p q)
+
+pub tight-slots-clear : Tight-slots-clear
+tight-slots-clear = (λ κs args. tt, λ κs args r r′ e e′ p q. one p q)
+
+pub tight-slots-clear-namespace : Tight-slots-clear-namespace
+tight-slots-clear-namespace = (λ κs args. tt, λ κs args r r′ e e′ p q. one p q)
+
+pub tight-slots-clear-all : Tight-slots-clear-all
+tight-slots-clear-all = (λ κs args. tt, λ κs args r r′ e e′ p q. one (p .0) (q .0))
+
+pub tight-marks-some-differs : Tight-marks-some-differs
+tight-marks-some-differs = (λ κs args. tt, λ κs args r r′ e e′ p q. one p q)
+
+pub tight-marks-mark : Tight-marks-mark
+tight-marks-mark = (λ κs args. tt, λ κs args r r′ e e′ p q. one p q)
+
+pub tight-marks-zero-namespace : Tight-marks-zero-namespace
+tight-marks-zero-namespace = (λ κs args. tt, λ κs args r r′ e e′ p q. one p q)
+
+pub tight-locks-decide : Tight-locks-decide
+tight-locks-decide = (λ κs args. tt, λ κs args r r′ e e′ p q. one p q)
+
+pub tight-locks-shown : Tight-locks-shown
+tight-locks-shown = (λ κs args. tt, λ κs args r r′ e e′ p q. one p q)
+
+pub tight-locks-boot-write : Tight-locks-boot-write
+tight-locks-boot-write = (λ κs args. tt, λ κs args r r′ e e′ p q. one p q)
+
+pub tight-locks-both-locked : Tight-locks-both-locked
+tight-locks-both-locked = (λ κs args. tt, λ κs args r r′ e e′ p q. one p q)
+
+pub tight-locks-set-locks : Tight-locks-set-locks
+tight-locks-set-locks w κs args =
+    (id⊢ (w .𝓤) (emp (w .𝓤)), λ r r′ e e′. fact-use (w .𝓤) _ (conjL (w .𝓤) _ _) (λ p. fact-use (w .𝓤) _ (conjR (w .𝓤) _ _) (λ q. factI (w .𝓤) _ _ (same (one (p .0) (q .0)) (one (p .1) (q .1))))))
+  where
+    same : {a a′ : Answer} {b b′ : BootLocks} → a ≡ a′ → b ≡ b′ → _≡_ {A = Answer × BootLocks} (a, b) (a′, b′)
+    same p q = cc
+
+pub tight-locks-set-features : Tight-locks-set-features
+tight-locks-set-features = (λ κs args. tt, λ κs args r r′ e e′ p q. one p q)
+
+abbrev startLeft : Outcome → Answered × (List ℕ × List ℕ)
+startLeft o = (record { answer = o .answer; drive = o .state .drive }, (o .state .keys, o .state .marks))
+
+abbrev callLeft : CallLeft → Called × (List ℕ × (List ℕ × List ℕ))
+callLeft c = (record { answer = c .answer; drive = c .state .drive; bytes = c .bytes }, (c .state .keys, (c .state .marks, c .out)))
+
+abbrev sessionLeft : SessionLeft → Session × (List ℕ × (List ℕ × List ℕ))
+sessionLeft c = (record { result = c .result; drive = c .state .drive; lines = c .lines; bytes = c .bytes }, (c .state .keys, (c .state .marks, c .out)))
+
+pub tight-drive-start : Tight-drive-start
+tight-drive-start = (λ κs args. tt, λ κs args r r′ e e′ p q. ap startLeft (one p q))
+
+pub tight-drive-answer-line : Tight-drive-answer-line
+tight-drive-answer-line = (λ κs args. tt, λ κs args r r′ e e′ p q. ap callLeft (one p q))
+
+pub tight-drive-answer-session : Tight-drive-answer-session
+tight-drive-answer-session = (λ κs args. tt, λ κs args r r′ e e′ p q. ap sessionLeft (one p q))

@@ -1,0 +1,45 @@
+-- What a run of `drive::start`, of `drive::answer_line` (a call for one line) and
+-- of `drive::answer_session` leaves: values that meet the function's contract.
+-- In `args` and `exit`, .0 is the first parameter, .1 .0 the second, and so on.
+-- Assumes nothing.
+use mathlib.Core.Path.{_≡_}
+use mathlib.Core.List.{List}
+use Prim.Native.Nat.{ℕ}
+use denote.Ref.{now}
+use Rattle.rules.specs.State.{State, Outcome}
+use Rattle.rules.specs.Call.{Called}
+use Rattle.rules.specs.Sessions.{Session}
+use Rattle.drive.specs.Stepping.{state}
+use Rattle.drive.proofs.start.Reads as drive-start
+use Rattle.drive.proofs.answer_line.Reads as drive-answer-line
+use Rattle.drive.proofs.answer_session.Reads as drive-answer-session
+
+-- A function's contract as its callers learn it is a relation of the arguments, the result, and what was lent as it is at the exit.
+pub record Run {Lifetimes : Type 0} {Args Result Exit : Lifetimes → Type 0} (Contract : (κs : Lifetimes) → Args κs → Result κs → Exit κs → Type 0) : Type 0 where
+  pub κs : Lifetimes
+  pub args : Args κs
+  pub result : Result κs
+  pub exit : Exit κs
+  pub meets : Contract κs args result exit
+
+-- start(keys, marks), on a store
+pub record StartLeaves (store : List ℕ) (left : Outcome) : Type 0 where
+  pub run : Run drive-start.Learnt
+  pub on-store : now (run .args .1 .0) ≡ store
+  pub leaves : left ≡ record { answer = run .result .answer; state = state (run .result .drive) (now (run .exit .0)) (now (run .exit .1 .0)) }
+
+-- answer_line(drive, keys, marks, line, out), on a state
+pub record CallLeaves (s : State) (line out : List ℕ) (left : Called) : Type 0 where
+  pub run : Run drive-answer-line.Learnt
+  pub on-state : state (run .args .0) (now (run .args .1 .0)) (now (run .args .1 .1 .0)) ≡ s
+  pub on-line : now (run .args .1 .1 .1 .0) ≡ line
+  pub on-out : now (run .args .1 .1 .1 .1 .0) ≡ out
+  pub leaves : left ≡ record { answer = run .result .answer; state = state (run .result .drive) (now (run .exit .1 .0)) (now (run .exit .1 .1 .0)); bytes = run .result .bytes; out = now (run .exit .1 .1 .1 .1 .0) }
+
+-- answer_session(drive, keys, marks, text, out), on a state
+pub record SessionLeaves (s : State) (text out : List ℕ) (left : Session) : Type 0 where
+  pub run : Run drive-answer-session.Learnt
+  pub on-state : state (run .args .0) (now (run .args .1 .0)) (now (run .args .1 .1 .0)) ≡ s
+  pub on-text : now (run .args .1 .1 .1 .0) ≡ text
+  pub on-out : now (run .args .1 .1 .1 .1 .0) ≡ out
+  pub leaves : left ≡ record { result = run .result .result; state = state (run .result .drive) (now (run .exit .1 .0)) (now (run .exit .1 .1 .0)); lines = run .result .lines; bytes = run .result .bytes; out = now (run .exit .1 .1 .1 .1 .0) }

@@ -1,0 +1,4 @@
+pub mod Tight
+pub mod Leaves
+pub mod Demands
+pub mod Defined

@@ -1,0 +1,150 @@
+-- "How tight the contracts are": for every input a public function's contract
+-- leaves one possible result, state, mark store and output, refusals too; and no
+-- caller is asked to check first. Stated for every public function, crate by
+-- crate; proofs/Tight.antt has a proof of each.
+-- Assumes nothing.
+use mathlib.Core.Path.{_≡_}
+use mathlib.Core.Bool.{Bool}
+use mathlib.Core.List.{List}
+use Prim.Native.Nat.{ℕ}
+use base.Logic.{ent, emp}
+use contract.Monad.{conj, fact}
+use contract.Lifetimes.{Lfts}
+use denote.Ref.{now}
+use denote.Triple.Clauses.{Clauses, AtExit}
+use borrow.Fn.World.{World, ArgsD}
+use Rattle.rules.specs.declared.Answer.{Answer}
+use Rattle.rules.specs.declared.BootLocks.{BootLocks}
+use Rattle.rules.specs.declared.LineRead.{LineRead}
+use Rattle.locks.specs.declared.Changed.{Changed}
+use Rattle.drive.specs.declared.Answered.{Answered}
+use Rattle.drive.specs.declared.Called.{Called}
+use Rattle.drive.specs.declared.Session.{Session}
+use Rattle.cells.proofs.fill_zero.Reads as cells-fill-zero
+use Rattle.cells.proofs.copy.Reads as cells-copy
+use Rattle.cells.proofs.equal.Reads as cells-equal
+use Rattle.cells.proofs.all_zero.Reads as cells-all-zero
+use Rattle.digits.proofs.read_line.Reads as digits-read-line
+use Rattle.digits.proofs.number.Reads as digits-number
+use Rattle.digits.proofs.write_answer.Reads as digits-write-answer
+use Rattle.slots.proofs.loaded.Reads as slots-loaded
+use Rattle.slots.proofs.holds_uid.Reads as slots-holds-uid
+use Rattle.slots.proofs.other_key.Reads as slots-other-key
+use Rattle.slots.proofs.unsound.Reads as slots-unsound
+use Rattle.slots.proofs.store.Reads as slots-store
+use Rattle.slots.proofs.clear.Reads as slots-clear
+use Rattle.slots.proofs.clear_namespace.Reads as slots-clear-namespace
+use Rattle.slots.proofs.clear_all.Reads as slots-clear-all
+use Rattle.marks.proofs.some_differs.Reads as marks-some-differs
+use Rattle.marks.proofs.mark.Reads as marks-mark
+use Rattle.marks.proofs.zero_namespace.Reads as marks-zero-namespace
+use Rattle.locks.proofs.decide.Reads as locks-decide
+use Rattle.locks.proofs.shown.Reads as locks-shown
+use Rattle.locks.proofs.boot_write.Reads as locks-boot-write
+use Rattle.locks.proofs.both_locked.Reads as locks-both-locked
+use Rattle.locks.proofs.set_locks as set-locks
+use Rattle.locks.proofs.set_features.Reads as locks-set-features
+use Rattle.drive.proofs.start.Reads as drive-start
+use Rattle.drive.proofs.answer_line.Reads as drive-answer-line
+use Rattle.drive.proofs.answer_session.Reads as drive-answer-session
+
+-- A function's contract as its callers know it: `asks` is what they must show of the arguments; `tells` what they learn of the arguments, the result, and what was lent as it is at the exit (exit .0 for the first parameter, exit .1 .0 for the second, and so on). `left` puts together all that a call leaves.
+-- The contract is tight: it asks nothing, and any two outcomes that it allows are the same.
+abbrev pub Tight : {Lifetimes : Type 0} {Args Result Exit : Lifetimes → Type 0} {Left : Type 0} → ((κs : Lifetimes) → Args κs → Type 0) → ((κs : Lifetimes) → Args κs → Result κs → Exit κs → Type 0) → ((κs : Lifetimes) → Result κs → Exit κs → Left) → Type 0
+Tight {Lifetimes} {Args} {Result} {Exit} asks tells left =
+    ((κs : Lifetimes) (args : Args κs) → asks κs args)
+    × ((κs : Lifetimes) (args : Args κs) (result result′ : Result κs) (exit exit′ : Exit κs)
+    → tells κs args result exit
+    → tells κs args result′ exit′
+    → left κs result exit ≡ left κs result′ exit′)
+
+abbrev pub Tight-cells-fill-zero : Type 0
+Tight-cells-fill-zero = Tight {Left = List ℕ} cells-fill-zero.Asked cells-fill-zero.Learnt (λ κs result exit. now (exit .0))
+
+abbrev pub Tight-cells-copy : Type 0
+Tight-cells-copy = Tight {Left = List ℕ} cells-copy.Asked cells-copy.Learnt (λ κs result exit. now (exit .0))
+
+abbrev pub Tight-cells-equal : Type 0
+Tight-cells-equal = Tight {Left = Bool} cells-equal.Asked cells-equal.Learnt (λ κs result exit. result)
+
+abbrev pub Tight-cells-all-zero : Type 0
+Tight-cells-all-zero = Tight {Left = Bool} cells-all-zero.Asked cells-all-zero.Learnt (λ κs result exit. result)
+
+abbrev pub Tight-digits-read-line : Type 0
+Tight-digits-read-line = Tight {Left = LineRead × List ℕ} digits-read-line.Asked digits-read-line.Learnt (λ κs result exit. (result, now (exit .1 .0)))
+
+abbrev pub Tight-digits-number : Type 0
+Tight-digits-number = Tight {Left = ℕ} digits-number.Asked digits-number.Learnt (λ κs result exit. result)
+
+abbrev pub Tight-digits-write-answer : Type 0
+Tight-digits-write-answer = Tight {Left = ℕ × List ℕ} digits-write-answer.Asked digits-write-answer.Learnt (λ κs result exit. (result, now (exit .1 .0)))
+
+abbrev pub Tight-slots-loaded : Type 0
+Tight-slots-loaded = Tight {Left = Bool} slots-loaded.Asked slots-loaded.Learnt (λ κs result exit. result)
+
+abbrev pub Tight-slots-holds-uid : Type 0
+Tight-slots-holds-uid = Tight {Left = Bool} slots-holds-uid.Asked slots-holds-uid.Learnt (λ κs result exit. result)
+
+abbrev pub Tight-slots-other-key : Type 0
+Tight-slots-other-key = Tight {Left = Bool} slots-other-key.Asked slots-other-key.Learnt (λ κs result exit. result)
+
+abbrev pub Tight-slots-unsound : Type 0
+Tight-slots-unsound = Tight {Left = Bool} slots-unsound.Asked slots-unsound.Learnt (λ κs result exit. result)
+
+abbrev pub Tight-slots-store : Type 0
+Tight-slots-store = Tight {Left = List ℕ} slots-store.Asked slots-store.Learnt (λ κs result exit. now (exit .0))
+
+abbrev pub Tight-slots-clear : Type 0
+Tight-slots-clear = Tight {Left = List ℕ} slots-clear.Asked slots-clear.Learnt (λ κs result exit. now (exit .0))
+
+abbrev pub Tight-slots-clear-namespace : Type 0
+Tight-slots-clear-namespace = Tight {Left = List ℕ} slots-clear-namespace.Asked slots-clear-namespace.Learnt (λ κs result exit. now (exit .0))
+
+abbrev pub Tight-slots-clear-all : Type 0
+Tight-slots-clear-all = Tight {Left = List ℕ} slots-clear-all.Asked slots-clear-all.Learnt (λ κs result exit. now (exit .0))
+
+abbrev pub Tight-marks-some-differs : Type 0
+Tight-marks-some-differs = Tight {Left = Bool} marks-some-differs.Asked marks-some-differs.Learnt (λ κs result exit. result)
+
+abbrev pub Tight-marks-mark : Type 0
+Tight-marks-mark = Tight {Left = List ℕ} marks-mark.Asked marks-mark.Learnt (λ κs result exit. now (exit .0))
+
+abbrev pub Tight-marks-zero-namespace : Type 0
+Tight-marks-zero-namespace = Tight {Left = List ℕ} marks-zero-namespace.Asked marks-zero-namespace.Learnt (λ κs result exit. now (exit .0))
+
+abbrev pub Tight-locks-decide : Type 0
+Tight-locks-decide = Tight {Left = Changed} locks-decide.Asked locks-decide.Learnt (λ κs result exit. result)
+
+abbrev pub Tight-locks-shown : Type 0
+Tight-locks-shown = Tight {Left = ℕ} locks-shown.Asked locks-shown.Learnt (λ κs result exit. result)
+
+abbrev pub Tight-locks-boot-write : Type 0
+Tight-locks-boot-write = Tight {Left = Answer} locks-boot-write.Asked locks-boot-write.Learnt (λ κs result exit. result)
+
+abbrev pub Tight-locks-both-locked : Type 0
+Tight-locks-both-locked = Tight {Left = BootLocks} locks-both-locked.Asked locks-both-locked.Learnt (λ κs result exit. result)
+
+-- set_locks is lent a struct, so that its callers know its contract as assertions of the program logic.
+abbrev pub Tight-locks-set-locks : Type 2
+Tight-locks-set-locks =
+    (w : World) (κs : Lfts 1) (args : ArgsD set-locks.signature κs)
+    → ent (w .𝓤) (emp (w .𝓤)) (contract w κs args .requires tt)
+    × ((result result′ : Answer) (exit exit′ : AtExit set-locks.ended κs)
+    → ent (w .𝓤)
+    (conj (w .𝓤) (contract w κs args .ensures tt result exit) (contract w κs args .ensures tt result′ exit′))
+    (fact (w .𝓤) (_≡_ {A = Answer × BootLocks} (result, now (exit .0)) (result′, now (exit′ .0)))))
+  where
+    contract : (w : World) → Clauses (w .𝓤) set-locks.ended
+    contract w = set-locks.clauses (w .𝓤) (w .H) (w .𝓖 .A) (w .𝓜 .mem) (w .𝓡 .run)
+
+abbrev pub Tight-locks-set-features : Type 0
+Tight-locks-set-features = Tight {Left = Changed} locks-set-features.Asked locks-set-features.Learnt (λ κs result exit. result)
+
+abbrev pub Tight-drive-start : Type 0
+Tight-drive-start = Tight {Left = Answered × (List ℕ × List ℕ)} drive-start.Asked drive-start.Learnt (λ κs result exit. (result, (now (exit .0), now (exit .1 .0))))
+
+abbrev pub Tight-drive-answer-line : Type 0
+Tight-drive-answer-line = Tight {Left = Called × (List ℕ × (List ℕ × List ℕ))} drive-answer-line.Asked drive-answer-line.Learnt (λ κs result exit. (result, (now (exit .1 .0), (now (exit .1 .1 .0), now (exit .1 .1 .1 .1 .0)))))
+
+abbrev pub Tight-drive-answer-session : Type 0
+Tight-drive-answer-session = Tight {Left = Session × (List ℕ × (List ℕ × List ℕ))} drive-answer-session.Asked drive-answer-session.Learnt (λ κs result exit. (result, (now (exit .1 .0), (now (exit .1 .1 .0), now (exit .1 .1 .1 .1 .0)))))
