@@ -27,6 +27,9 @@ use Rattle.locks.proofs.set_features.Met as locks-set-features
 use Rattle.drive.proofs.start.Met as drive-start
 use Rattle.drive.proofs.answer_line.Met as drive-answer-line
 use Rattle.drive.proofs.answer_session.Met as drive-answer-session
+use Rattle.tuffaleen_c.proofs.tuffaleen_start.Met as tuffaleen-c-start
+use Rattle.tuffaleen_c.proofs.tuffaleen_line.Met as tuffaleen-c-line
+use Rattle.tuffaleen_c.proofs.tuffaleen_session.Met as tuffaleen-c-session
 use Rattle.promises.specs.Defined.{Defined}
 
 pub defined : {M : Type 1} → Defined M
@@ -82,7 +85,16 @@ defined = (
                                                   drive-start.met,
                                                   (
                                                     drive-answer-line.met,
-                                                    drive-answer-session.met,
+                                                    (
+                                                      drive-answer-session.met,
+                                                      (
+                                                        tuffaleen-c-start.met,
+                                                        (
+                                                          tuffaleen-c-line.met,
+                                                          tuffaleen-c-session.met,
+                                                        ),
+                                                      ),
+                                                    ),
                                                   ),
                                                 ),
                                               ),

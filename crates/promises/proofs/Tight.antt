@@ -15,7 +15,8 @@ use Rattle.digits.specs.Digits.{ReadInto, Wrote}
 use Rattle.drive.specs.declared.Answered.{Answered}
 use Rattle.drive.specs.declared.Called.{Called}
 use Rattle.drive.specs.declared.Session.{Session}
-use Rattle.promises.specs.Tight.{Tight-cells-fill-zero, Tight-cells-copy, Tight-cells-equal, Tight-cells-all-zero, Tight-digits-read-line, Tight-digits-number, Tight-digits-write-answer, Tight-slots-loaded, Tight-slots-holds-uid, Tight-slots-other-key, Tight-slots-unsound, Tight-slots-store, Tight-slots-clear, Tight-slots-clear-namespace, Tight-slots-clear-all, Tight-marks-some-differs, Tight-marks-mark, Tight-marks-zero-namespace, Tight-locks-decide, Tight-locks-shown, Tight-locks-boot-write, Tight-locks-both-locked, Tight-locks-set-features, Tight-locks-set-locks, Tight-drive-start, Tight-drive-answer-line, Tight-drive-answer-session}
+use Rattle.tuffaleen_c.specs.Image.{CStarted, CCalled, CSession}
+use Rattle.promises.specs.Tight.{Tight-tuffaleen-c-start, Tight-tuffaleen-c-line, Tight-tuffaleen-c-session, Tight-cells-fill-zero, Tight-cells-copy, Tight-cells-equal, Tight-cells-all-zero, Tight-digits-read-line, Tight-digits-number, Tight-digits-write-answer, Tight-slots-loaded, Tight-slots-holds-uid, Tight-slots-other-key, Tight-slots-unsound, Tight-slots-store, Tight-slots-clear, Tight-slots-clear-namespace, Tight-slots-clear-all, Tight-marks-some-differs, Tight-marks-mark, Tight-marks-zero-namespace, Tight-locks-decide, Tight-locks-shown, Tight-locks-boot-write, Tight-locks-both-locked, Tight-locks-set-features, Tight-locks-set-locks, Tight-drive-start, Tight-drive-answer-line, Tight-drive-answer-session}
 
 -- the law: what two outcomes both equal, they share
 one : {A : Type 0} {x y z : A} → x ≡ z → y ≡ z → x ≡ y
@@ -114,3 +115,12 @@ tight-drive-answer-line = (λ κs args. tt, λ κs args r r′ e e′ p q. ap ca
 
 pub tight-drive-answer-session : Tight-drive-answer-session
 tight-drive-answer-session = (λ κs args. tt, λ κs args r r′ e e′ p q. ap sessionLeft (one p q))
+
+pub tight-tuffaleen-c-start : Tight-tuffaleen-c-start
+tight-tuffaleen-c-start = (λ κs args. tt, λ κs args r r′ e e′ p q. ap (λ (c : CStarted). (c .number, (c .image, c .marks))) (one p q))
+
+pub tight-tuffaleen-c-line : Tight-tuffaleen-c-line
+tight-tuffaleen-c-line = (λ κs args. tt, λ κs args r r′ e e′ p q. ap (λ (c : CCalled). (c .number, (c .image, (c .marks, (c .out, c .bytes))))) (one p q))
+
+pub tight-tuffaleen-c-session : Tight-tuffaleen-c-session
+tight-tuffaleen-c-session = (λ κs args. tt, λ κs args r r′ e e′ p q. ap (λ (c : CSession). (c .number, (c .image, (c .marks, (c .out, (c .lines, c .bytes)))))) (one p q))

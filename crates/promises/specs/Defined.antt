@@ -28,6 +28,9 @@ use Rattle.locks.proofs.set_features.Statement as locks-set-features
 use Rattle.drive.proofs.start.Statement as drive-start
 use Rattle.drive.proofs.answer_line.Statement as drive-answer-line
 use Rattle.drive.proofs.answer_session.Statement as drive-answer-session
+use Rattle.tuffaleen_c.proofs.tuffaleen_start.Statement as tuffaleen-c-start
+use Rattle.tuffaleen_c.proofs.tuffaleen_line.Statement as tuffaleen-c-line
+use Rattle.tuffaleen_c.proofs.tuffaleen_session.Statement as tuffaleen-c-session
 
 -- Every public function, run on any arguments, ends and leaves what its contract says: its theorem, as the prover states it.
 abbrev pub Defined : Type 1 → Type 2
@@ -58,4 +61,7 @@ Defined M =
     × (locks-set-features.statement M
     × (drive-start.statement M
     × (drive-answer-line.statement M
-    × drive-answer-session.statement M)))))))))))))))))))))))))
+    × (drive-answer-session.statement M
+    × (tuffaleen-c-start.statement M
+    × (tuffaleen-c-line.statement M
+    × tuffaleen-c-session.statement M))))))))))))))))))))))))))))

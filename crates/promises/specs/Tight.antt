@@ -47,6 +47,9 @@ use Rattle.locks.proofs.set_features.Reads as locks-set-features
 use Rattle.drive.proofs.start.Reads as drive-start
 use Rattle.drive.proofs.answer_line.Reads as drive-answer-line
 use Rattle.drive.proofs.answer_session.Reads as drive-answer-session
+use Rattle.tuffaleen_c.proofs.tuffaleen_start.Reads as tuffaleen-c-start
+use Rattle.tuffaleen_c.proofs.tuffaleen_line.Reads as tuffaleen-c-line
+use Rattle.tuffaleen_c.proofs.tuffaleen_session.Reads as tuffaleen-c-session
 
 -- A function's contract as its callers know it: `asks` is what they must show of the arguments; `tells` what they learn of the arguments, the result, and what was lent as it is at the exit (exit .0 for the first parameter, exit .1 .0 for the second, and so on). `left` puts together all that a call leaves.
 -- The contract is tight: it asks nothing, and any two outcomes that it allows are the same.
@@ -148,3 +151,13 @@ Tight-drive-answer-line = Tight {Left = Called × (List ℕ × (List ℕ × List
 
 abbrev pub Tight-drive-answer-session : Type 0
 Tight-drive-answer-session = Tight {Left = Session × (List ℕ × (List ℕ × List ℕ))} drive-answer-session.Asked drive-answer-session.Learnt (λ κs result exit. (result, (now (exit .1 .0), (now (exit .1 .1 .0), now (exit .1 .1 .1 .1 .0)))))
+
+-- the lines and bytes that a call from C tells, it tells through a number that it is lent
+abbrev pub Tight-tuffaleen-c-start : Type 0
+Tight-tuffaleen-c-start = Tight {Left = ℕ × (List ℕ × List ℕ)} tuffaleen-c-start.Asked tuffaleen-c-start.Learnt (λ κs result exit. (result, (now (exit .0), now (exit .1 .0))))
+
+abbrev pub Tight-tuffaleen-c-line : Type 0
+Tight-tuffaleen-c-line = Tight {Left = ℕ × (List ℕ × (List ℕ × (List ℕ × ℕ)))} tuffaleen-c-line.Asked tuffaleen-c-line.Learnt (λ κs result exit. (result, (now (exit .0), (now (exit .1 .0), (now (exit .1 .1 .1 .0), now (exit .1 .1 .1 .1 .0))))))
+
+abbrev pub Tight-tuffaleen-c-session : Type 0
+Tight-tuffaleen-c-session = Tight {Left = ℕ × (List ℕ × (List ℕ × (List ℕ × (ℕ × ℕ))))} tuffaleen-c-session.Asked tuffaleen-c-session.Learnt (λ κs result exit. (result, (now (exit .0), (now (exit .1 .0), (now (exit .1 .1 .1 .0), (now (exit .1 .1 .1 .1 .0), now (exit .1 .1 .1 .1 .1 .0)))))))

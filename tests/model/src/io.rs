@@ -29,11 +29,11 @@ impl Drive {
             return Err(status::TAG);
         }
         // Length, then the first 8 bytes: a slot begins with its kept identity.
-        let identity = &self.keys[at..at + MARK];
+        let identity: [u8; MARK] = field(&self.keys, at);
         let first = index * BLOCKS;
         let covered = &mut marks[(first + blocks.start) * MARK..(first + blocks.end) * MARK];
         if is_write {
-            covered.chunks_exact_mut(MARK).for_each(|mark| mark.copy_from_slice(identity));
+            covered.chunks_exact_mut(MARK).for_each(|mark| mark.copy_from_slice(&identity));
         } else if covered.chunks_exact(MARK).any(|mark| mark[0] != 0 && mark != identity) {
             return Err(status::WRONG_KEY);
         }
@@ -51,6 +51,6 @@ fn blocks(command: &[u8; COMMAND]) -> Result<Range<usize>, u16> {
     Ok(first..first + count)
 }
 
-fn field<const N: usize>(command: &[u8; COMMAND], at: usize) -> [u8; N] {
-    command[at..at + N].try_into().unwrap()
+fn field<const N: usize>(bytes: &[u8], at: usize) -> [u8; N] {
+    bytes[at..at + N].try_into().unwrap()
 }

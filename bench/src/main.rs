@@ -1,0 +1,42 @@
+//! How long the proved drive takes beside the model, which is ordinary Rust. `bench/run`.
+
+mod clock;
+mod mix;
+mod race;
+mod series;
+
+use race::{lines, sessions, Times, ROUNDS};
+
+const FRAMES: usize = 100_000;
+
+fn main() {
+    let (mixed, told) = mix::mixed(FRAMES);
+    println!("{FRAMES} mixed frames as one session, {} bytes of text:", mixed.text.len());
+    println!("{told}\n");
+    println!("Nanoseconds of processor time a frame, best of {ROUNDS} runs in turn:");
+    println!("{:<46}{:>9}{:>9}{:>9}", "", "proved", "model", "ratio");
+    let whole = sessions(&mixed);
+    print("mixed frames, one session", whole);
+    for (in_byte, place) in [(0, "first"), (15, "last")] {
+        for others in [0, 16, 63] {
+            let what = format!("load and clear, {others} others, {place} byte differs");
+            print(&what, sessions(&series::loads(others, in_byte)));
+        }
+    }
+    for blocks in [1, 16, 256] {
+        print(&format!("write, {blocks} blocks"), sessions(&series::writes(blocks)));
+    }
+    for blocks in [1, 16, 256] {
+        print(&format!("read, {blocks} blocks"), sessions(&series::reads(blocks)));
+    }
+    print("mixed, call by call; model on its own state", lines(&mixed, false));
+    print("mixed, call by call; model from and to image", lines(&mixed, true));
+    println!(
+        "\nbench: {FRAMES} mixed frames: proved / model = {:.2}; asked: at most 2",
+        whole.ratio()
+    );
+}
+
+fn print(what: &str, times: Times) {
+    println!("{what:<46}{:>9.1}{:>9.1}{:>9.2}", times.proved, times.model, times.ratio());
+}

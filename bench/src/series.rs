@@ -1,0 +1,52 @@
+//! One kind of frame again and again, with one thing growing.
+
+use model::lines::*;
+use model::numbers::{KEY_UID, ROOM, STORE};
+use model::{status, Drive};
+
+use crate::race::Course;
+
+const FRAMES: usize = 20_000;
+
+/// A load and its clear in turn, in a pool of 64 with so many other slots loaded. The KeyUIDs have
+/// 16 bytes and differ in one.
+pub fn loads(others: usize, in_byte: usize) -> Course {
+    let uid = |slot: usize| {
+        let mut uid = [0x5A; KEY_UID];
+        uid[in_byte] = slot as u8;
+        hex(&uid)
+    };
+    let managed = [manage(1, 32), manage(2, 32)];
+    let loaded = (1..=others).map(|slot| {
+        let (namespace, tag) = (1 + slot / 32, slot % 32);
+        load(namespace as u8, tag as u16, &uid(slot), slot as u8)
+    });
+    let turns = [load(1, 0, &uid(0), 0xEE), clear_one(1, 0)];
+    course(managed.into_iter().chain(loaded), &turns)
+}
+
+/// One write again and again.
+pub fn writes(blocks: usize) -> Course {
+    course(recorded(), &[write(1, 0, 0, blocks as u16 - 1)])
+}
+
+/// One read again and again, of blocks written under the same key.
+pub fn reads(blocks: usize) -> Course {
+    course(recorded(), &[read(1, 0, 0, blocks as u16 - 1)])
+}
+
+fn recorded() -> [String; 3] {
+    [manage(1, 1), load(1, 0, &"5A".repeat(KEY_UID), 0xEE), write(1, 0, 0, 255)]
+}
+
+fn course(before: impl IntoIterator<Item = String>, turns: &[String]) -> Course {
+    let mut marks = vec![0; STORE];
+    let (_, mut drive) = Drive::start(&mut marks);
+    for line in before {
+        let (number, _) = drive.line(&mut marks, line.as_bytes(), &mut [0; ROOM]);
+        assert_eq!(number, status::DONE, "{line}");
+    }
+    let lines = turns.iter().cycle().take(FRAMES);
+    let text = lines.flat_map(|line| line.bytes().chain([b'\n'])).collect();
+    Course { text, lines: FRAMES, drive, marks }
+}

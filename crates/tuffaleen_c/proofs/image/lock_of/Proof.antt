@@ -1,0 +1,18 @@
+-- `lock_of` meets its contract: 1, below 3, and from 3 on.
+-- Assumes nothing.
+use borrow.Author.Needs.{needs}
+use Rattle.tuffaleen_c.proofs.ImageLaws.{locked-of, held-of}
+use Rattle.tuffaleen_c.proofs.image.lock_of.Statement.{statement}
+use Rattle.tuffaleen_c.proofs.image.lock_of.Tie as tie
+
+returns : tie.Need-returns
+returns c = search needs
+
+returns-2 : tie.Need-returns-2
+returns-2 c = locked-of (c .before .before .args .b) (c .if1 .taken) (c .before .match .rest .1)
+
+returns-3 : tie.Need-returns-3
+returns-3 c = held-of (c .before .before .args .b) (c .if1 .left)
+
+pub lock-of-spec : {M : Type 1} → statement M
+lock-of-spec = tie.close (tie.spec returns returns-2 returns-3)

@@ -1,0 +1,49 @@
+-- `no_image` meets its contract: the length, then each lock byte.
+-- Assumes nothing.
+use borrow.Author.Needs.{needs}
+use mathlib.Core.Path.{sym, _∙_}
+use Rattle.tuffaleen_c.proofs.ImageLaws.{other-length, first-lock, second-lock}
+use Rattle.tuffaleen_c.proofs.image.no_image.Statement.{statement}
+use Rattle.tuffaleen_c.proofs.image.no_image.Tie as tie
+
+returns : tie.Need-returns
+returns c = sym (other-length (c .before .before .args .image .now) (c .if1 .taken))
+
+shared-slice-read-no-lock : tie.Need-shared-slice-read-no-lock
+shared-slice-read-no-lock c = search needs
+
+no-lock-requires : tie.Need-no-lock-requires
+no-lock-requires c κs = search needs
+
+add-no-lock : tie.Need-add-no-lock
+add-no-lock c = search needs
+
+shared-slice-read-no-lock-2 : tie.Need-shared-slice-read-no-lock-2
+shared-slice-read-no-lock-2 c = search needs
+
+no-lock-requires-2 : tie.Need-no-lock-requires-2
+no-lock-requires-2 c κs = search needs
+
+returns-2 : tie.Need-returns-2
+returns-2 c =
+    let e = c .before in
+    c .if2 .taken ∙ sym (first-lock (e .before .before .before .before .args .image .now) (e .before .before .if1 .left) (sym (e .no-lock .ensures) ∙ c .if2 .taken))
+
+returns-3 : tie.Need-returns-3
+returns-3 c =
+    let e = c .before .before in
+    c .no-lock2 .ensures
+    ∙ sym (second-lock (e .before .before .before .before .before .args .image .now) (e .before .before .before .if1 .left) (sym (e .before .no-lock .ensures) ∙ e .if2 .left))
+
+pub no-image-spec : {M : Type 1} → statement M
+no-image-spec =
+    tie.close
+    (tie.spec
+    returns
+    shared-slice-read-no-lock
+    no-lock-requires
+    add-no-lock
+    shared-slice-read-no-lock-2
+    no-lock-requires-2
+    returns-2
+    returns-3)

@@ -1,0 +1,148 @@
+/*
+ * Tuffaleen: the drive's key cache, its key check and its boot partition locks, for firmware in C or C++.
+ *
+ * The functions are proved to answer as the paper (01-scope.md) says, for every image, store, line and output
+ * that fits the rules under "What the caller promises". Make the library and link it, on x86-64:
+ *
+ *     rt staticlib tuffaleen_c
+ *     gcc -Iinclude firmware.c target/staticlib/libtuffaleen_c.a
+ *
+ * It needs memcpy and memset and nothing else of a C library: no heap, no input or output, no threads. A call takes
+ * some 7 KB of stack, where it works on a copy of the key slots; the stack is not wiped afterwards.
+ *
+ * The library keeps nothing between calls. All it knows lies in two buffers of yours:
+ *
+ *   image   the drive's state: tag counts, boot locks and keys.
+ *   marks   the mark store: under which KeyUID each block was last written.
+ *
+ * tuffaleen_start makes both those of a fresh drive. Each later call reads them and changes them in place.
+ *
+ * What must outlast the power is the marks and the four tag counts, and nothing else of the image, which has the keys.
+ * After a loss of power make the image anew: the tag counts kept, both locks Write Locked, every other byte zero. That
+ * is what the line 0B01 (power cycle) makes of any sound image. Do not call tuffaleen_start: it zeroes the marks.
+ *
+ * What the caller promises, since no function can check it:
+ *
+ *   - Every pointer may be read, and if it is not to const also written, for all of its length. `lines` and `written`
+ *     point to a size_t each.
+ *   - No buffer overlaps another, nor `lines` or `written`.
+ *   - No pointer is null. Where a length is 0 nothing is read or written there; still pass some address.
+ *   - Nothing else touches the buffers during a call. Calls on different buffers may run at the same time.
+ *
+ * What the caller gets:
+ *
+ *   - A refusal changes neither image nor marks (one exception: tuffaleen_start with a wrong store).
+ *   - Beyond the bytes written, an output keeps what it held. Nothing outside the given lengths is touched.
+ *   - Every call ends, and needs no alignment of any buffer.
+ */
+#ifndef TUFFALEEN_H
+#define TUFFALEEN_H
+
+#include <stddef.h>
+#include <stdint.h>
+
+#ifdef __cplusplus
+extern "C" {
+#endif
+
+/* Sizes in bytes. */
+#define TUFFALEEN_IMAGE_BYTES 6278   /* an image, exactly */
+#define TUFFALEEN_MARKS_BYTES 9216   /* a mark store, exactly */
+#define TUFFALEEN_ANSWER_BYTES 13    /* the output that a call must have room for, for each line it is given */
+#define TUFFALEEN_LINE_BYTES 140     /* the longest frame line, without its line feed */
+
+/*
+ * Where things lie in an image. Whoever only calls the functions below does not need these; they serve whoever
+ * shows a state, or stores one. All bytes are as the paper has them: an emptied slot is all zero bytes, and a
+ * KeyUID is padded with zeros.
+ */
+#define TUFFALEEN_COUNTS_AT 0        /* 4 bytes: tag counts of namespaces 1 to 4, 0 if not managed */
+#define TUFFALEEN_LOCKS_AT 4         /* 2 bytes: the states of boot partitions 0 and 1, as below */
+#define TUFFALEEN_SLOTS_AT 6         /* 128 slots, 32 for each namespace, managed or not */
+#define TUFFALEEN_SLOT_BYTES 49      /* KeyUID length 1 (0 if empty), KeyUID 16, key 32 */
+#define TUFFALEEN_SLOT_AT(ns, tag) (TUFFALEEN_SLOTS_AT + (((ns) - 1) * 32 + (tag)) * TUFFALEEN_SLOT_BYTES)
+
+#define TUFFALEEN_WRITE_UNLOCKED 1
+#define TUFFALEEN_WRITE_LOCKED 2
+#define TUFFALEEN_WRITE_LOCKED_UNTIL_POWER_CYCLE 3
+
+/*
+ * Where things lie in a mark store: namespace order, then block order; the KeyUID's length (0: never written),
+ * then its first 8 bytes, padded with zeros.
+ */
+#define TUFFALEEN_MARK_BYTES 9
+#define TUFFALEEN_MARK_AT(ns, block) ((((ns) - 1) * 256 + (block)) * TUFFALEEN_MARK_BYTES)
+
+/* Every answer's number: status type in the high byte, status code in the low one. */
+enum tuffaleen_answer {
+    TUFFALEEN_DONE = 0x0000,
+    TUFFALEEN_INVALID_OPCODE = 0x0001,      /* I/O opcode other than write, read, compare, verify */
+    TUFFALEEN_INVALID_FIELD = 0x0002,       /* CETYPE, Dword 11, boot partition or reset byte */
+    TUFFALEEN_INVALID_NAMESPACE = 0x000B,   /* namespace not 1 to 4 */
+    TUFFALEEN_INVALID_KEY_TAG = 0x0025,     /* tag above Maximum Key Tag; or I/O to an empty slot */
+    TUFFALEEN_WRONG_KEY = 0x0028,           /* a covered block was written under another kept identity */
+    TUFFALEEN_BLOCK_RANGE = 0x0080,         /* blocks reach past 256 */
+    TUFFALEEN_LOCK_NOT_CHANGEABLE = 0x010E, /* a boot lock is not changeable now */
+    TUFFALEEN_BOOT_WRITE_LOCKED = 0x011E,   /* boot partition not Write Unlocked */
+    TUFFALEEN_NOT_A_FRAME_LINE = 0x0701,
+    TUFFALEEN_UNKNOWN_KIND = 0x0702,
+    TUFFALEEN_WRONG_FRAME_LENGTH = 0x0703,
+    TUFFALEEN_KEY_UID_LENGTH = 0x0704,      /* KeyUID length 0 or above 16 */
+    TUFFALEEN_ALREADY_MANAGED = 0x0705,
+    TUFFALEEN_NOT_MANAGED = 0x0706,
+    TUFFALEEN_TAG_COUNT = 0x0707,           /* tag count 0 or above 32 */
+    TUFFALEEN_POOL_TOO_SMALL = 0x0708,
+    TUFFALEEN_SLOT_OCCUPIED = 0x0709,
+    TUFFALEEN_SLOT_EMPTY = 0x070A,
+    TUFFALEEN_OLD_KEY_UID = 0x070B,         /* old KeyUID is not the slot's */
+    TUFFALEEN_OTHER_KEY = 0x070C,           /* a loaded slot has this KeyUID and another key */
+    TUFFALEEN_STORE_LENGTH = 0x070D,        /* store not of TUFFALEEN_MARKS_BYTES */
+    TUFFALEEN_UNSOUND_STATE = 0x070E,       /* image of another length, or not sound */
+    TUFFALEEN_OUTPUT_TOO_SHORT = 0x070F     /* less than TUFFALEEN_ANSWER_BYTES for each line */
+};
+
+/*
+ * Starts a fresh drive: nothing managed, no keys, both boot partitions Write Locked, no block written.
+ *
+ *   TUFFALEEN_DONE            the image is the fresh drive's and the marks are zero, whatever they held.
+ *   TUFFALEEN_STORE_LENGTH    the marks have another length and stay. The image is the fresh drive's still, unless
+ *                             its length is wrong too: then it stays as well.
+ *   TUFFALEEN_UNSOUND_STATE   the image alone has another length. Both stay.
+ */
+uint16_t tuffaleen_start(uint8_t *image, size_t image_len, uint8_t *marks, size_t marks_len);
+
+/*
+ * Answers one frame line, given without its line feed. Returns the answer's number; at `out` the same number stands
+ * as four uppercase digits, for Get Features followed by the eight of its data, and a line feed. `*written` is how
+ * many bytes that is: 5 or 13.
+ *
+ * Three answers refuse the call, not the line, and are looked for first and in this order. With these nothing is
+ * written at `out`, and `*written` is 0:
+ *
+ *   TUFFALEEN_OUTPUT_TOO_SHORT   out_len below 13
+ *   TUFFALEEN_STORE_LENGTH       marks_len other than 9216
+ *   TUFFALEEN_UNSOUND_STATE      image_len other than 6278; a lock byte outside 1 to 3; a tag count above 32, a sum
+ *                                of them above 64; a slot that is loaded at an unallocated tag, has a KeyUID length
+ *                                above 16, or has a byte other than zero after its KeyUID or, if empty, anywhere
+ */
+uint16_t tuffaleen_line(uint8_t *image, size_t image_len, uint8_t *marks, size_t marks_len,
+                        const uint8_t *line, size_t line_len,
+                        uint8_t *out, size_t out_len, size_t *written);
+
+/*
+ * Answers every line of a text, as tuffaleen_line would one after the other; the state is looked through once and
+ * not for each line. Lines end with a line feed; a last line without one counts, an empty line is answered 0701,
+ * and an empty text has no lines. The answers stand at `out` one after the other.
+ *
+ * Returns TUFFALEEN_DONE, whatever the single answers are, with `*lines` the lines answered and `*written` the bytes
+ * written; or one of the three refusals of tuffaleen_line, with both 0. The output needs 13 bytes for each line.
+ */
+uint16_t tuffaleen_session(uint8_t *image, size_t image_len, uint8_t *marks, size_t marks_len,
+                           const uint8_t *text, size_t text_len,
+                           uint8_t *out, size_t out_len, size_t *lines, size_t *written);
+
+#ifdef __cplusplus
+}
+#endif
+
+#endif

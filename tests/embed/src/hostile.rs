@@ -1,0 +1,139 @@
+//! What a broken or ill-meaning host sends, and states that no drive reached.
+
+use embed::Rng;
+use model::numbers::{BLOCKS, FRAME, HEAD, IMAGE, MARK, NAMESPACES, POOL, SLOT, TAGS};
+
+use crate::universe::{key, key_uid};
+
+const DIGITS: &[u8] = b"0123456789ABCDEF";
+/// The longest line that is made here.
+pub const LONGEST: usize = 4 * FRAME;
+
+pub fn to_digits(frame: &[u8], line: &mut Vec<u8>) {
+    line.clear();
+    for byte in frame {
+        line.push(DIGITS[usize::from(byte >> 4)]);
+        line.push(DIGITS[usize::from(byte & 0x0F)]);
+    }
+}
+
+pub fn damage_line(rng: &mut Rng, line: &mut Vec<u8>) {
+    let at = rng.below(line.len());
+    match rng.below(13) {
+        0 => line[at] = rng.pick(DIGITS),
+        1 => line[at] = rng.byte(),
+        2 => line.truncate(at),
+        3 => line.make_ascii_lowercase(),
+        4 => line.push(rng.pick(DIGITS)),
+        5 => line.extend([rng.pick(DIGITS), rng.pick(DIGITS)]),
+        6 => line.clear(),
+        7 => line.insert(at, rng.pick(b"\n\r \0gG/:@`\xC1")),
+        8 => line[1] = rng.pick(DIGITS),
+        9 => lengthen(rng, line),
+        10 => other_key_uid_length(rng, line),
+        11 => random_digits(rng, line),
+        _ => line.iter_mut().for_each(|byte| *byte = rng.byte()),
+    }
+}
+
+/// To about the longest that a line may be, or far beyond.
+fn lengthen(rng: &mut Rng, line: &mut Vec<u8>) {
+    let length = match rng.below(4) {
+        0 => line.len() + rng.below(LONGEST - line.len()),
+        _ => 2 * FRAME - 3 + rng.below(6),
+    };
+    while line.len() < length {
+        line.push(rng.pick(DIGITS));
+    }
+}
+
+/// Where a load has its KeyUID length and a replace its first one.
+fn other_key_uid_length(rng: &mut Rng, line: &mut [u8]) {
+    let length: u8 = rng.pick(&[0, 1, 2, 8, 15, 16, 17, 18, 127, 255]);
+    if let Some(digits) = line.get_mut(8..10) {
+        digits[0] = DIGITS[usize::from(length >> 4)];
+        digits[1] = DIGITS[usize::from(length & 0x0F)];
+    }
+}
+
+fn random_digits(rng: &mut Rng, line: &mut Vec<u8>) {
+    line.clear();
+    line.extend_from_slice(b"0");
+    for _ in 0..rng.below(2 * FRAME) {
+        line.push(rng.pick(DIGITS));
+    }
+}
+
+/// A sound image and any marks, mostly of the universe's KeyUIDs.
+pub fn random_state(rng: &mut Rng, image: &mut [u8], marks: &mut [u8]) {
+    image.fill(0);
+    let mut left = POOL;
+    for count in &mut image[..NAMESPACES] {
+        *count = rng.below(left.min(TAGS) + 1) as u8;
+        left -= usize::from(*count);
+    }
+    for lock in &mut image[NAMESPACES..NAMESPACES + 2] {
+        *lock = rng.pick(&[1, 2, 3]);
+    }
+    let (head, slots) = image.split_at_mut(NAMESPACES + 2);
+    for (count, slots) in head.iter().zip(slots.chunks_exact_mut(TAGS * SLOT)) {
+        let allocated = &mut slots[..usize::from(*count) * SLOT];
+        allocated.chunks_exact_mut(SLOT).for_each(|slot| random_slot(rng, slot));
+    }
+    marks.chunks_exact_mut(MARK).for_each(|mark| random_mark(rng, mark));
+}
+
+fn random_slot(rng: &mut Rng, slot: &mut [u8]) {
+    match rng.below(4) {
+        0 => {}
+        1 => {
+            let length = 1 + rng.below(16);
+            slot[0] = length as u8;
+            rng.fill(&mut slot[1..=length]);
+            rng.fill(&mut slot[HEAD..]);
+        }
+        _ => {
+            let uid = key_uid(rng);
+            slot[0] = uid.len() as u8;
+            slot[1..=uid.len()].copy_from_slice(uid);
+            slot[HEAD..].copy_from_slice(&key(rng, uid));
+        }
+    }
+}
+
+fn random_mark(rng: &mut Rng, mark: &mut [u8]) {
+    mark.fill(0);
+    match rng.below(16) {
+        0 => rng.fill(mark),
+        1 => rng.fill(&mut mark[1..]),
+        2..=7 => {
+            let uid = key_uid(rng);
+            let kept = uid.len().min(MARK - 1);
+            mark[0] = uid.len() as u8;
+            mark[1..=kept].copy_from_slice(&uid[..kept]);
+        }
+        _ => {}
+    }
+}
+
+/// A place in an image and a value for it; mostly where soundness looks.
+pub fn damage_image(rng: &mut Rng, image: &mut [u8]) {
+    let slot = NAMESPACES + 2 + rng.below(NAMESPACES * TAGS) * SLOT;
+    let at = match rng.below(4) {
+        0 => rng.below(NAMESPACES + 2),
+        1 => slot,
+        2 => slot + rng.below(HEAD),
+        _ => rng.below(IMAGE),
+    };
+    image[at] = match rng.below(4) {
+        0 => rng.byte(),
+        1 => rng.pick(&[0, 1, 16, 17, 32, 33, 255]),
+        2 => image[at].wrapping_add(1),
+        _ => image[at] ^ 1 << rng.below(8),
+    };
+}
+
+pub fn damage_marks(rng: &mut Rng, marks: &mut [u8]) {
+    let block = rng.below(NAMESPACES * BLOCKS);
+    random_mark(rng, &mut marks[block * MARK..][..MARK]);
+}

@@ -1,0 +1,93 @@
+//! The proved drive against the model, call by call, through the C interface.
+//! `cargo run --release --offline -- CALLS SEED [--broken RULE]`
+//!
+//! Exit status: 0 no difference; 1 a difference; 2 bad usage; 3 a number of the paper never met.
+
+use std::env::args;
+use std::process::ExitCode;
+use std::time::Instant;
+
+mod arena;
+mod broken;
+mod host;
+mod hostile;
+mod oracle;
+mod pair;
+mod sweeps;
+mod tally;
+mod universe;
+mod walk;
+
+use broken::Rule;
+use embed::Rng;
+use pair::Difference;
+use sweeps::Sweeps;
+use tally::Tally;
+use walk::{LineWalk, TextWalk};
+
+const USAGE: &str = "usage: embed CALLS SEED [--broken RULE]
+RULE: number, written, lines, image, marks, text, output, guard";
+
+/// With fewer calls a number that is not met says nothing.
+const ENOUGH: u64 = 200_000;
+/// One text for so many lines.
+const LINES_A_TEXT: usize = 32;
+
+struct Asked {
+    calls: u64,
+    seed: u64,
+    broken: Option<Rule>,
+}
+
+fn main() -> ExitCode {
+    let words: Vec<String> = args().skip(1).collect();
+    let Some(asked) = asked(&words) else {
+        eprintln!("{USAGE}");
+        return ExitCode::from(2);
+    };
+    let mut tally = Tally::new();
+    let since = Instant::now();
+    if let Err(Difference(told)) = run(&asked, &mut tally) {
+        println!("difference: seed {}, after {} calls\n{told}", asked.seed, tally.calls);
+        return ExitCode::from(1);
+    }
+    let seconds = since.elapsed().as_secs_f64();
+    tally.print();
+    println!("embed: {} calls, seed {}, {seconds:.1} s: no difference", tally.calls, asked.seed);
+    let missed = tally.missed();
+    if asked.calls >= ENOUGH && !missed.is_empty() {
+        println!("embed: never met: {}", missed.join(", "));
+        return ExitCode::from(3);
+    }
+    ExitCode::SUCCESS
+}
+
+fn asked(words: &[String]) -> Option<Asked> {
+    let (calls, seed, broken) = match words {
+        [calls, seed] => (calls, seed, None),
+        [calls, seed, flag, rule] if flag == "--broken" => (calls, seed, Some(Rule::named(rule)?)),
+        _ => return None,
+    };
+    Some(Asked { calls: calls.parse().ok()?, seed: seed.parse().ok()?, broken })
+}
+
+/// The sweeps, then walks of at least as many calls as were asked.
+fn run(asked: &Asked, tally: &mut Tally) -> Result<(), Difference> {
+    let mut rng = Rng::new(asked.seed);
+    let mut sweeps = Sweeps::new(rng.word(), asked.broken);
+    let swept = sweeps.run();
+    tally.add(&sweeps.pair.tally);
+    swept?;
+    let mut by_line = LineWalk::new(rng.word(), asked.broken);
+    let mut by_text = TextWalk::new(rng.word(), asked.broken);
+    let mut walked = Ok(());
+    while walked.is_ok() && by_line.pair.tally.calls + by_text.pair.tally.calls < asked.calls {
+        walked = match rng.below(LINES_A_TEXT) {
+            0 => by_text.step(),
+            _ => by_line.step(),
+        };
+    }
+    tally.add(&by_line.pair.tally);
+    tally.add(&by_text.pair.tally);
+    walked
+}

@@ -1,0 +1,85 @@
+//! `include/tuffaleen.h` from Rust: what the header asks of a caller, slices have.
+
+/// What no count can be, so that one that a call leaves unset is seen.
+const UNSET: usize = usize::MAX;
+
+extern "C" {
+    fn tuffaleen_start(image: *mut u8, image_len: usize, marks: *mut u8, marks_len: usize) -> u16;
+
+    fn tuffaleen_line(
+        image: *mut u8,
+        image_len: usize,
+        marks: *mut u8,
+        marks_len: usize,
+        line: *const u8,
+        line_len: usize,
+        out: *mut u8,
+        out_len: usize,
+        written: *mut usize,
+    ) -> u16;
+
+    fn tuffaleen_session(
+        image: *mut u8,
+        image_len: usize,
+        marks: *mut u8,
+        marks_len: usize,
+        text: *const u8,
+        text_len: usize,
+        out: *mut u8,
+        out_len: usize,
+        lines: *mut usize,
+        written: *mut usize,
+    ) -> u16;
+}
+
+/// The number.
+pub fn start(image: &mut [u8], marks: &mut [u8]) -> u16 {
+    // SAFETY: the slices are valid for their lengths and do not overlap.
+    unsafe { tuffaleen_start(image.as_mut_ptr(), image.len(), marks.as_mut_ptr(), marks.len()) }
+}
+
+/// The number and the bytes written.
+pub fn line(image: &mut [u8], marks: &mut [u8], line: &[u8], out: &mut [u8]) -> (u16, usize) {
+    let mut written = UNSET;
+    // SAFETY: the slices are valid for their lengths and do not overlap.
+    let number = unsafe {
+        tuffaleen_line(
+            image.as_mut_ptr(),
+            image.len(),
+            marks.as_mut_ptr(),
+            marks.len(),
+            line.as_ptr(),
+            line.len(),
+            out.as_mut_ptr(),
+            out.len(),
+            &mut written,
+        )
+    };
+    (number, written)
+}
+
+/// The number, the lines answered and the bytes written.
+pub fn session(
+    image: &mut [u8],
+    marks: &mut [u8],
+    text: &[u8],
+    out: &mut [u8],
+) -> (u16, usize, usize) {
+    let (mut lines, mut written) = (UNSET, UNSET);
+    // SAFETY: the slices are valid for their lengths and do not overlap.
+    let number = unsafe {
+        tuffaleen_session(
+            image.as_mut_ptr(),
+            image.len(),
+            marks.as_mut_ptr(),
+            marks.len(),
+            text.as_ptr(),
+            text.len(),
+            out.as_mut_ptr(),
+            out.len(),
+            &mut lines,
+            &mut written,
+        )
+    };
+    (number, lines, written)
+}

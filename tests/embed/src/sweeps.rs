@@ -1,0 +1,193 @@
+//! What can be gone through from end to end: every length near a right one, every output length,
+//! every value of the bytes that an image begins with, every byte of an image, and every value of
+//! every byte of a frame.
+
+use embed::Rng;
+use model::lines::*;
+use model::numbers::{IMAGE, NAMESPACES, ROOM, STORE};
+use model::{status, Drive};
+
+use crate::arena::Lengths;
+use crate::broken::Rule;
+use crate::hostile::random_state;
+use crate::oracle::{lines, Function};
+use crate::pair::{Difference, Pair, State};
+
+const NEAR: usize = 64;
+
+pub struct Sweeps {
+    pub pair: Pair,
+    rng: Rng,
+    /// Where most sweeps start from.
+    used: State,
+}
+
+type Done = Result<(), Difference>;
+
+impl Sweeps {
+    pub fn new(seed: u64, broken: Option<Rule>) -> Sweeps {
+        let rooms = Lengths { image: 2 * IMAGE, marks: 2 * STORE, text: 8 * NEAR, out: 8 * NEAR };
+        Sweeps { pair: Pair::new(rooms, broken), rng: Rng::new(seed), used: used() }
+    }
+
+    pub fn run(&mut self) -> Done {
+        self.every_image_byte()?;
+        self.starts()?;
+        self.lengths()?;
+        self.outputs()?;
+        self.first_bytes()?;
+        self.frames()?;
+        self.digits()
+    }
+
+    fn every_image_byte(&mut self) -> Done {
+        self.pair.change(|image, marks| random_state(&mut self.rng, image, marks));
+        let state = self.pair.save();
+        for at in 0..IMAGE {
+            for flip in [0x01, 0xFF] {
+                self.pair.change(|image, _| image[at] ^= flip);
+                say(&mut self.pair, "09", ROOM)?;
+                self.pair.change(|image, _| image[at] = state.image[at]);
+            }
+        }
+        Ok(())
+    }
+
+    fn starts(&mut self) -> Done {
+        for image in [0, 1, IMAGE - 1, IMAGE, IMAGE + 1, 2 * IMAGE] {
+            for marks in near(STORE) {
+                self.pair.change(|image, marks| {
+                    image.fill(0xEE);
+                    marks.fill(0xEE);
+                });
+                self.pair.call(Function::Start, Lengths { image, marks, text: 0, out: 0 })?;
+            }
+        }
+        Ok(())
+    }
+
+    /// Lines and sessions, with too little room and with enough.
+    fn lengths(&mut self) -> Done {
+        self.pair.restore(&self.used);
+        let image = near(IMAGE).map(|image| (image, STORE));
+        let marks = near(STORE).map(|marks| (IMAGE, marks));
+        let both = near(STORE).map(|marks| (IMAGE + 1, marks));
+        for (image, marks) in image.chain(marks).chain(both) {
+            self.pair.say(b"0B01\n0B01");
+            for out in [0, ROOM - 1, ROOM, 2 * ROOM] {
+                let lengths = Lengths { image, marks, text: 4, out };
+                self.pair.call(Function::Line, lengths)?;
+                self.pair.call(Function::Session, Lengths { text: 9, ..lengths })?;
+                self.pair.call(Function::Session, Lengths { text: 0, ..lengths })?;
+            }
+        }
+        Ok(())
+    }
+
+    fn outputs(&mut self) -> Done {
+        for line in ["09", "0B00", "", "010102", "0G"] {
+            for out in 0..2 * NEAR {
+                self.pair.restore(&self.used);
+                say(&mut self.pair, line, out)?;
+            }
+        }
+        for text in ["", "\n", "09", "09\n", "09\n\n0B01", "010304\n09\n0B02\n05010000\n09\n09\n"] {
+            for out in 0..=lines(text.as_bytes()) * ROOM + 2 * ROOM {
+                self.pair.restore(&self.used);
+                self.pair.say(text.as_bytes());
+                self.pair.call(Function::Session, Lengths::right(text.len(), out))?;
+            }
+        }
+        Ok(())
+    }
+
+    /// Every value of each tag count and lock byte.
+    fn first_bytes(&mut self) -> Done {
+        self.pair.restore(&self.used);
+        for at in 0..NAMESPACES + 2 {
+            for value in 0..=255 {
+                let old = self.used.image[at];
+                self.pair.change(|image, _| image[at] = value);
+                say(&mut self.pair, "09", ROOM)?;
+                self.pair.change(|image, _| image[at] = old);
+            }
+        }
+        Ok(())
+    }
+
+    /// Every value of every byte of a frame of each kind.
+    fn frames(&mut self) -> Done {
+        for frame in frames() {
+            for at in (0..frame.len()).step_by(2) {
+                for value in 0..=255 {
+                    let line = [&frame[..at], &hex(&[value]), &frame[at + 2..]].concat();
+                    self.pair.restore(&self.used);
+                    say(&mut self.pair, line, ROOM)?;
+                }
+            }
+        }
+        Ok(())
+    }
+
+    /// Every value of every digit of some lines.
+    fn digits(&mut self) -> Done {
+        for line in ["010304", "05010000", "09", "0B01"] {
+            for at in 0..line.len() {
+                for value in 0..=255 {
+                    let mut line = line.as_bytes().to_vec();
+                    line[at] = value;
+                    self.pair.restore(&self.used);
+                    say(&mut self.pair, line, ROOM)?;
+                }
+            }
+        }
+        Ok(())
+    }
+}
+
+fn say(pair: &mut Pair, line: impl AsRef<[u8]>, out: usize) -> Done {
+    let line = line.as_ref();
+    pair.say(line);
+    pair.call(Function::Line, Lengths::right(line.len(), out)).map(|_| ())
+}
+
+/// Lengths around a right one, the shortest, and the double.
+fn near(right: usize) -> impl Iterator<Item = usize> {
+    (0..NEAR).chain(right - NEAR..=right + NEAR).chain([2 * right])
+}
+
+/// Namespaces 1 and 2 in use, every block of the first written, two KeyUIDs of one kept identity.
+fn used() -> State {
+    let mut marks = vec![0; STORE];
+    let (_, mut drive) = Drive::start(&mut marks);
+    let lines = [
+        manage(1, 3),
+        manage(2, 32),
+        load(1, 0, "A0A1A2A3A4A5A6A7A8", 0x11),
+        load(1, 1, "A0A1A2A3A4A5A6A7FF", 0x22),
+        load(2, 31, "AA", 0x33),
+        write(1, 0, 0, 255),
+    ];
+    for line in lines {
+        let (number, _) = drive.line(&mut marks, line.as_bytes(), &mut [0; ROOM]);
+        assert_eq!(number, status::DONE, "{line}");
+    }
+    State { image: drive.to_image().to_vec(), marks }
+}
+
+/// One of each kind, accepted by the used drive but for the boot write.
+fn frames() -> [String; 11] {
+    [
+        manage(3, 29),
+        release(1),
+        load(1, 2, "AA", 0x33),
+        replace(1, 0, "A0A1A2A3A4A5A6A7A8", "AA", 0x33),
+        clear_one(1, 0),
+        clear_all(2),
+        read(1, 1, 200, 55),
+        set_features(0x0B),
+        get_features(),
+        boot_write(0),
+        power_cycle(),
+    ]
+}

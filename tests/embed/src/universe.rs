@@ -1,0 +1,203 @@
+//! Frames over few namespaces, tags, KeyUIDs and keys, so that they meet each other often.
+
+use embed::Rng;
+use model::numbers::{COMMAND, KEY, KEY_UID, NAMESPACES, SLOT, TAGS};
+
+/// Lengths and first 8 bytes are shared in every way that a cut or a pad could confuse.
+const KEY_UIDS: [&[u8]; 16] = [
+    b"\xA0",
+    b"\xA1",
+    b"\xA0\x00",
+    b"\x00\xA0",
+    b"\x00",
+    b"\x00\x00",
+    b"\xA0\xA1\xA2\xA3\xA4\xA5\xA6",
+    b"\xA0\xA1\xA2\xA3\xA4\xA5\xA6\xA7",
+    b"\xA0\xA1\xA2\xA3\xA4\xA5\xA6\xFF",
+    b"\xA0\xA1\xA2\xA3\xA4\xA5\xA6\xA7\xA8",
+    b"\xA0\xA1\xA2\xA3\xA4\xA5\xA6\xA7\xFF",
+    b"\xA0\xA1\xA2\xA3\xA4\xA5\xA6\xA7\x00",
+    b"\xA0\xA1\xA2\xA3\xA4\xA5\xA6\xA7\x00\x00\x00\x00\x00\x00\x00\x00",
+    b"\xA0\xA1\xA2\xA3\xA4\xA5\xA6\xA7\x00\x00\x00\x00\x00\x00\x00\x01",
+    b"\xA0\xA1\xA2\xA3\xA4\xA5\xA6\xA7\xA8\xA9\xAA\xAB\xAC\xAD\xAE\xAF",
+    b"\x00\x00\x00\x00\x00\x00\x00\x00\x00\x00\x00\x00\x00\x00\x00\x00",
+];
+
+const COUNTS: [u8; 16] = [1, 2, 2, 3, 4, 4, 8, 12, 16, 20, 31, 32, 32, 0, 33, 255];
+
+/// How often each kind comes, in turns of 256.
+const KINDS: [(u8, u8); 11] = [
+    (0x01, 14),
+    (0x02, 2),
+    (0x03, 61),
+    (0x04, 36),
+    (0x05, 16),
+    (0x06, 2),
+    (0x07, 90),
+    (0x08, 16),
+    (0x09, 6),
+    (0x0A, 10),
+    (0x0B, 3),
+];
+
+/// Writes a frame's bytes, likely for a drive with this image.
+pub fn frame(rng: &mut Rng, image: &[u8], frame: &mut Vec<u8>) {
+    frame.clear();
+    let kind = kind(rng);
+    frame.push(kind);
+    match kind {
+        0x01 => frame.extend([namespace(rng), rng.pick(&COUNTS)]),
+        0x02 | 0x06 => frame.push(namespace(rng)),
+        0x03 => load(rng, image, frame),
+        0x04 => replace(rng, image, frame),
+        0x05 => put_place(frame, place(rng, image, true)),
+        0x07 => frame.extend(command(rng, image)),
+        0x08 => frame.extend(dword_11(rng).to_le_bytes()),
+        0x0A => frame.push(rng.pick(&[0, 0, 1, 1, 2, 3, 255])),
+        0x0B => frame.push(rng.pick(&[0, 0, 0, 0, 1, 2, 2, 255])),
+        _ => {}
+    }
+}
+
+pub fn key_uid(rng: &mut Rng) -> &'static [u8] {
+    rng.pick(&KEY_UIDS)
+}
+
+/// Mostly the one key of its KeyUID; otherwise one that differs in its first or last byte.
+pub fn key(rng: &mut Rng, key_uid: &[u8]) -> [u8; KEY] {
+    let mut key = [key_uid.len() as u8; KEY];
+    match rng.below(16) {
+        0 => key[0] ^= 1,
+        1 => key[KEY - 1] ^= 1,
+        2 => key = [0; KEY],
+        _ => {}
+    }
+    key
+}
+
+fn kind(rng: &mut Rng) -> u8 {
+    let mut turn = rng.byte();
+    for (kind, turns) in KINDS {
+        if turn < turns {
+            return kind;
+        }
+        turn -= turns;
+    }
+    0x07
+}
+
+fn namespace(rng: &mut Rng) -> u8 {
+    match rng.below(32) {
+        0 => rng.pick(&[0, 5, 255]),
+        other => 1 + (other % 4) as u8,
+    }
+}
+
+fn tag(rng: &mut Rng, image: &[u8], namespace: u8) -> u16 {
+    let index = usize::from(namespace.wrapping_sub(1));
+    let count = u16::from(*image[..NAMESPACES].get(index).unwrap_or(&0));
+    match rng.below(24) {
+        0 => count,
+        1 => rng.pick(&[count.wrapping_sub(1), count + 1, 31, 32, 256, 0xFFFF]),
+        2 => 256 + rng.below(4) as u16,
+        _ => rng.below(usize::from(count.max(1))) as u16,
+    }
+}
+
+/// A namespace and a tag; for a slot that should be loaded, chosen from several.
+fn place(rng: &mut Rng, image: &[u8], loaded: bool) -> (u8, u16) {
+    let mut place = (0, 0);
+    for _ in 0..4 {
+        let namespace = namespace(rng);
+        place = (namespace, tag(rng, image, namespace));
+        if held(image, place).is_some() == loaded {
+            break;
+        }
+    }
+    place
+}
+
+fn put_place(frame: &mut Vec<u8>, (namespace, tag): (u8, u16)) {
+    frame.push(namespace);
+    frame.extend(tag.to_le_bytes());
+}
+
+fn led_by_length(frame: &mut Vec<u8>, key_uid: &[u8]) {
+    frame.push(key_uid.len() as u8);
+    frame.extend(key_uid);
+}
+
+fn load(rng: &mut Rng, image: &[u8], frame: &mut Vec<u8>) {
+    put_place(frame, place(rng, image, false));
+    let new = key_uid(rng);
+    led_by_length(frame, new);
+    frame.extend(key(rng, new));
+}
+
+fn replace(rng: &mut Rng, image: &[u8], frame: &mut Vec<u8>) {
+    let place = place(rng, image, true);
+    put_place(frame, place);
+    let old = match held(image, place) {
+        Some(held) if !rng.once_in(4) => held,
+        _ => key_uid(rng),
+    };
+    led_by_length(frame, old);
+    let new = if rng.once_in(4) { old } else { key_uid(rng) };
+    led_by_length(frame, new);
+    frame.extend(key(rng, new));
+}
+
+/// The KeyUID of a loaded slot.
+fn held(image: &[u8], (namespace, tag): (u8, u16)) -> Option<&[u8]> {
+    let index = usize::from(namespace).checked_sub(1)? * TAGS + usize::from(tag);
+    let slot = image[NAMESPACES + 2..].chunks_exact(SLOT).nth(index)?;
+    match usize::from(slot[0]) {
+        length @ 1..=KEY_UID => Some(&slot[1..=length]),
+        _ => None,
+    }
+}
+
+fn command(rng: &mut Rng, image: &[u8]) -> [u8; COMMAND] {
+    let mut command = [0; COMMAND];
+    if rng.once_in(8) {
+        rng.fill(&mut command);
+    }
+    let (namespace, tag) = place(rng, image, true);
+    let (first, field) = blocks(rng);
+    command[0] = rng.pick(&[1, 1, 1, 1, 2, 2, 2, 2, 2, 5, 5, 5, 0x0C, 0x0C, 0x0C, 0]);
+    command[4..8].copy_from_slice(&u32::from(namespace).to_le_bytes());
+    command[40..48].copy_from_slice(&first.to_le_bytes());
+    command[48..50].copy_from_slice(&field.to_le_bytes());
+    command[50] = command[50] & 0xF0 | 1;
+    command[52..54].copy_from_slice(&tag.to_le_bytes());
+    if rng.once_in(16) {
+        let at = rng.pick(&[0, 5, 6, 7, 41, 44, 47, 49, 50, 51, 53]);
+        command[at] ^= rng.byte();
+    }
+    command
+}
+
+/// The first block and the count field.
+fn blocks(rng: &mut Rng) -> (u64, u16) {
+    let first = match rng.below(16) {
+        0 => rng.pick(&[255, 256, 257, 1 << 32, 1 << 63, u64::MAX - 255, u64::MAX]),
+        1..=4 => rng.below(256) as u64,
+        _ => rng.below(12) as u64,
+    };
+    let to_last = 255u16.wrapping_sub(first as u16);
+    let field = match rng.below(16) {
+        0 => rng.pick(&[to_last.wrapping_add(1), 255, 256, 0xFFFF]),
+        1 => to_last,
+        _ => rng.below(4) as u16,
+    };
+    (first, field)
+}
+
+fn dword_11(rng: &mut Rng) -> u32 {
+    let fields = (rng.below(4) | rng.below(4) << 3) as u32;
+    match rng.below(8) {
+        0 => rng.below(64) as u32,
+        1 => fields | 1 << rng.below(32),
+        _ => fields,
+    }
+}
