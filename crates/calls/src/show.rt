@@ -3,7 +3,6 @@ use crate::ROOM;
 use libc::STDOUT_FILENO;
 use rules::Answer;
 use rules::Drive;
-use rules::Lock;
 use rules::NAMESPACES;
 
 pub fn text(s: &[u8]) {
@@ -87,14 +86,6 @@ pub fn rest(out: &[u8], bytes: usize) {
     text(b"\n");
 }
 
-fn lock_number(lock: Lock) -> u8 {
-    match lock {
-        Lock::WriteUnlocked => 1,
-        Lock::WriteLocked => 2,
-        Lock::WriteLockedUntilPowerCycle => 3,
-    }
-}
-
 // The small state as bytes: the counts, then the locks.
 pub fn drive(drive: Drive) -> [u8; NAMESPACES + 2] {
     let counts = drive.counts;
@@ -106,7 +97,7 @@ pub fn drive(drive: Drive) -> [u8; NAMESPACES + 2] {
         counts[1],
         counts[2],
         counts[3],
-        lock_number(zero),
-        lock_number(one),
+        locks::lock_value(zero),
+        locks::lock_value(one),
     ]
 }

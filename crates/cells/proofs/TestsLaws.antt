@@ -1,19 +1,19 @@
 -- What the tests mean: `same` is equality, and a test of a run of cells is
 -- false exactly when it is false at each cell.
 -- Assumes nothing.
-use mathlib.Core.Path.{_≡_, refl, sym, _∙_}
-use mathlib.Core.Bool.{Bool, true, false, _&&_, _||_, true≢false}
-use mathlib.Core.List.{List, [], _∷_}
+use mathlib.Core.Path.{_≡_, refl, sym, ap, _∙_}
+use mathlib.Core.Bool.{Bool, true, false, not, _&&_, _||_, true≢false, and-true, and-assoc}
+use mathlib.Core.List.{List, [], _∷_, _++_}
 use Prim.Native.Nat.{_-_, ℕ, zero, suc, _+_, _*_, _<_, _≤_}
-use native.Mathlib.Nat.{suc-mul, add-zero}
+use native.Mathlib.Nat.{suc-mul, zero-mul, add-comm, add-zero}
 use native.Mathlib.Omega.{arith}
 use native.Mathlib.Decide.{decLt}
 use native.Mathlib.Numerals.{add-one}
 use mathlib.Core.Logic.{by-cases}
 use lib.ListN.{length, getD, take, drop, drop-of-length-le}
-use lib.Seq.{drop-drop, drop-cons}
+use lib.Seq.{drop-drop, drop-cons, take-add}
 use lib.Dec.{eqb}
-use borrow.Author.Tests.{eq-eqb, ne-eqb, eqb-true}
+use borrow.Author.Tests.{eq-eqb, eqb-true}
 use Rattle.cells.specs.Cells.{part, cell, zeros}
 use Rattle.cells.specs.Tests.{same, allZero, someFrom, someCell}
 
@@ -113,29 +113,27 @@ true-or-false false n = refl
 -- ------------------------------------------------------------------------
 -- Loops that compare, or test every byte: a turn, and the end
 
-pub same-next : (xs ys : List ℕ) (i : ℕ) → i < length xs → i < length ys → getD xs i 0 ≡ getD ys i 0
-    → same (drop (i + 1) xs) (drop (i + 1) ys) ≡ same (drop i xs) (drop i ys)
+pub same-turn : (xs ys : List ℕ) (i : ℕ) (r : Bool) → i < length xs → i < length ys
+    → (r && eqb (getD xs i 0) (getD ys i 0)) && same (drop (i + 1) xs) (drop (i + 1) ys) ≡ r && same (drop i xs) (drop i ys)
 unfolding same
-same-next xs ys i h k e = rw (drop-cons xs i 0 h, drop-cons ys i 0 k, eq-eqb _ _ e, add-one)
+same-turn xs ys i true h k = rw (drop-cons xs i 0 h, drop-cons ys i 0 k, add-one)
+same-turn xs ys i false h k = refl
 
-pub same-end : (xs ys : List ℕ) (i : ℕ) → length xs ≤ i → length ys ≤ i → same (drop i xs) (drop i ys) ≡ true
+pub same-end : (xs ys : List ℕ) (i : ℕ) (r : Bool) → length xs ≤ i → length ys ≤ i → r ≡ r && same (drop i xs) (drop i ys)
 unfolding same
-same-end xs ys i h k = rw (drop-of-length-le xs h, drop-of-length-le ys k)
+same-end xs ys i r h k = rw (drop-of-length-le xs h, drop-of-length-le ys k) (sym (and-true r))
 
 pub to-false : (b : Bool) → (b ≡ true → ⊥) → false ≡ b
 to-false b n = sym (true-or-false b n)
 
-pub zero-next : (xs : List ℕ) (i : ℕ) → i < length xs → getD xs i 0 ≡ 0 → allZero (drop (i + 1) xs) ≡ allZero (drop i xs)
+pub zero-turn : (xs : List ℕ) (i : ℕ) (r : Bool) → i < length xs → (r && eqb (getD xs i 0) 0) && allZero (drop (i + 1) xs) ≡ r && allZero (drop i xs)
 unfolding allZero
-zero-next xs i h e = rw (drop-cons xs i 0 h, eq-eqb _ _ e, add-one)
+zero-turn xs i true h = rw (drop-cons xs i 0 h, add-one)
+zero-turn xs i false h = refl
 
-pub zero-here : (xs : List ℕ) (i : ℕ) → i < length xs → (getD xs i 0 ≡ 0 → ⊥) → false ≡ allZero (drop i xs)
+pub zero-end : (xs : List ℕ) (i : ℕ) (r : Bool) → length xs ≤ i → r ≡ r && allZero (drop i xs)
 unfolding allZero
-zero-here xs i h n = rw (drop-cons xs i 0 h, ne-eqb _ _ n)
-
-pub zero-end : (xs : List ℕ) (i : ℕ) → length xs ≤ i → true ≡ allZero (drop i xs)
-unfolding allZero
-zero-end xs i h = rw (drop-of-length-le xs h)
+zero-end xs i r h = rw (drop-of-length-le xs h) (sym (and-true r))
 
 -- ------------------------------------------------------------------------
 -- A loop over the cells of a run that stops at the first that is so
@@ -154,3 +152,61 @@ module _ (w : ℕ) (f : ℕ → List ℕ → Bool) where
   some-hit i n j xs lo hi h =
       let q : i + (j - i) ≡ j = omega arith in
       sym (false-or-true (someCell w i n f xs) (λ e. true≢false (sym h ∙ (rw q at (none-then w f n i xs e (j - i) (omega arith))))))
+
+-- ------------------------------------------------------------------------
+-- A test of a run split at a place, two tests that agree on a run, and the
+-- test for a byte other than zero
+
+both-false : (a b : Bool) → (a ≡ false → b ≡ false) → (b ≡ false → a ≡ false) → a ≡ b
+both-false true true f g = refl
+both-false true false f g = g refl
+both-false false b f g = sym (f refl)
+
+module _ (w : ℕ) where
+  -- m cells from i, and the n after them
+  pub some-split : (f : ℕ → List ℕ → Bool) (i m n : ℕ) (xs : List ℕ) → someCell w i (m + n) f xs ≡ someCell w i m f xs || someCell w (i + m) n f xs
+  some-split f i m n xs =
+      let s : (k : ℕ) → i + (m + k) ≡ i + m + k = (λ k. omega arith) in
+      let r : (k : ℕ) → m ≤ k → i + k ≡ i + m + (k - m) = (λ k h. omega arith) in
+      both-false _ _
+      (λ e. neither _ _
+      (then-none w f m i xs (λ k l. none-then w f (m + n) i xs e k (omega arith)))
+      (then-none w f n (i + m) xs (λ k l. rw (← s k) (none-then w f (m + n) i xs e (m + k) (omega arith)))))
+      (λ e. then-none w f (m + n) i xs (λ k l. by-cases (decLt k m)
+      (λ lt. none-then w f m i xs (or-left _ _ e) k lt)
+      (λ ge. rw (r k (omega arith)) (none-then w f n (i + m) xs (or-right (someCell w i m f xs) _ e) (k - m) (omega arith)))))
+
+  pub some-same : (f g : ℕ → List ℕ → Bool) (i n : ℕ) (xs : List ℕ) → ((k : ℕ) → k < n → f (i + k) (cell w (i + k) xs) ≡ g (i + k) (cell w (i + k) xs))
+      → someCell w i n f xs ≡ someCell w i n g xs
+  some-same f g i n xs h =
+      both-false _ _
+      (λ e. then-none w g n i xs (λ k l. sym (h k l) ∙ none-then w f n i xs e k l))
+      (λ e. then-none w f n i xs (λ k l. h k l ∙ none-then w g n i xs e k l))
+
+zero-append : (xs ys : List ℕ) → allZero (xs ++ ys) ≡ allZero xs && allZero ys
+unfolding allZero
+zero-append [] ys = refl
+zero-append (x ∷ xs) ys = rw (zero-append xs ys) (sym (and-assoc (eqb x 0) (allZero xs) (allZero ys)))
+
+not-and : (a b : Bool) → not (a && b) ≡ not a || not b
+not-and true b = refl
+not-and false b = refl
+
+abbrev pub marked : ℕ → List ℕ → Bool
+marked i c = not (allZero c)
+
+marked-from : (w n i : ℕ) (ys : List ℕ) → not (allZero (take (n * w) ys)) ≡ someFrom w i n marked ys
+unfolding someFrom allZero
+marked-from w zero i ys = rw zero-mul
+marked-from w (suc n) i ys =
+    let e : suc n * w ≡ w + n * w = suc-mul n w ∙ add-comm (n * w) w in
+    ap (λ k. not (allZero (take k ys))) e
+    ∙ ap (λ l. not (allZero l)) (take-add w (n * w) ys)
+    ∙ ap not (zero-append (take w ys) (take (n * w) (drop w ys)))
+    ∙ not-and (allZero (take w ys)) (allZero (take (n * w) (drop w ys)))
+    ∙ ap (λ b. not (allZero (take w ys)) || b) (marked-from w n (suc i) (drop w ys))
+
+-- a byte of the run is not zero exactly when one of a cell is not
+pub some-marked : (w i n : ℕ) (xs : List ℕ) → not (allZero (part (i * w) (n * w) xs)) ≡ someCell w i n marked xs
+unfolding part someCell
+some-marked w i n xs = marked-from w n i (drop (i * w) xs)

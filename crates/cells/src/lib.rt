@@ -30,33 +30,32 @@ pub fn copy(part: &mut [u8], src: &[u8])
     }
 }
 
-// Whether the two are the same, length and bytes; it stops at the first difference.
+// Whether the two are the same, length and bytes. It looks at every byte and does not stop at the first difference: with no way out of
+// the loop, the compiler compares many bytes at a time.
 pub fn equal(a: &[u8], b: &[u8]) -> bool
     ensures { λ r. ⌜ r ≡ same (now (a .entry)) (now (b .entry)) ⌝ }
 {
     if a.len() != b.len() {
         return false;
     }
+    let mut same = true;
     let mut i = 0;
     while i < a.len() {
-        if a[i] != b[i] {
-            return false;
-        }
+        same = same & (a[i] == b[i]);
         i += 1;
     }
-    true
+    same
 }
 
-// Whether every byte is zero.
+// Whether every byte is zero; with no way out of the loop either.
 pub fn all_zero(a: &[u8]) -> bool
     ensures { λ r. ⌜ r ≡ allZero (now (a .entry)) ⌝ }
 {
+    let mut zero = true;
     let mut i = 0;
     while i < a.len() {
-        if a[i] != 0 {
-            return false;
-        }
+        zero = zero & (a[i] == 0);
         i += 1;
     }
-    true
+    zero
 }

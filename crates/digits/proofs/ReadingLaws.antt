@@ -1,22 +1,22 @@
--- The first bad digit, found by a walk from the front; pairs of digits, decoded
--- one after the other.
+-- The first bad digit, found by a walk from the front; lines that have digits
+-- only; pairs of digits, decoded one after the other.
 -- Assumes nothing.
-use mathlib.Core.Path.{_≡_, refl, ap, _∙_}
-use mathlib.Core.Bool.{true, false, _&&_}
+use mathlib.Core.Path.{_≡_, refl, sym, ap, _∙_}
+use mathlib.Core.Bool.{Bool, true, false, _&&_, cond, true≢false}
 use mathlib.Core.Logic.{by-cases}
 use mathlib.Core.List.{List, [], _∷_, _++_, append-assoc, append-nil}
-use Prim.Native.Nat.{ℕ, suc, _+_, _*_, _/_, _%_, _≤_, _<_}
+use Prim.Native.Nat.{ℕ, zero, suc, _+_, _*_, _/_, _%_, _≤_, _<_}
 use native.Mathlib.Omega.{arith}
 use native.Mathlib.Numerals.{add-one}
 use native.Mathlib.Decide.{decLt}
 use lib.ListN.{length, getD, take, drop, set, drop-of-length-le}
 use lib.Seq.{drop-cons, take-suc, length-take-le}
-use lib.Dec.{leb}
-use borrow.Author.Tests.{leb-true}
+use lib.Dec.{eqb, leb, ltb, eqb·zero-suc, eqb·suc-suc}
+use borrow.Author.Tests.{leb-true, lt-ltb, le-ltb, eqb-false}
 use Rattle.cells.proofs.CellsLaws.{grow}
 use Rattle.cells.proofs.TestsLaws.{and-left, and-right, true-or-false}
 use Rattle.rules.specs.FrameLine.{isDigit, valueOf, firstBad, decoded}
-use Rattle.digits.specs.Steps.{framed}
+use Rattle.digits.specs.Steps.{Valued, allDigits, framed}
 
 pub outside : (a z d : ℕ) → (a ≤ d → d ≤ z → ⊥) → leb a d && leb d z ≡ false
 outside a z d out = true-or-false _ (λ e. out (leb-true a d (and-left _ _ e)) (leb-true d z (and-right (leb a d) _ e)))
@@ -41,6 +41,65 @@ module _ (line : List ℕ) (k : ℕ) (clean : CleanTo line k) where
   pub clean-end : length line ≤ k → k ≡ firstBad line
   unfolding firstBad
   clean-end h = let s : firstBad (drop k line) ≡ 0 = rw (drop-of-length-le line h) in omega arith
+
+-- ------------------------------------------------------------------------
+-- Digits only
+
+module _ (d v : ℕ) (w : Valued d v) where
+  pub below-16 : ltb v 16 ≡ isDigit d
+  below-16 =
+      by-cases (decLt v 16)
+      (λ good. lt-ltb v 16 good ∙ sym (w .good (omega arith) .0))
+      (λ bad. le-ltb v 16 (omega arith) ∙ sym (w .bad (omega arith)))
+
+  pub value-of : isDigit d ≡ true → (v ≤ 15) × (v ≡ valueOf d)
+  value-of e =
+      by-cases (decLt v 16)
+      (λ good. let h : v ≤ 15 = omega arith in (h, w .good h .1))
+      (λ bad. absurd (true≢false (sym e ∙ w .bad (omega arith))))
+
+-- the first byte is a digit or not: b
+first-decides : (b : Bool) (f n : ℕ) → eqb (cond b (suc f) 0) (suc n) ≡ b && eqb f n
+first-decides true f n = eqb·suc-suc f n
+first-decides false f n = eqb·zero-suc n
+
+first-is : (b : Bool) (f : ℕ) → 0 < cond b (suc f) 0 → b ≡ true
+first-is true f h = refl
+first-is false f h = absurd (omega arith)
+
+first-gone : (b : Bool) (f k : ℕ) → suc k < cond b (suc f) 0 → k < f
+first-gone true f k h = omega arith
+first-gone false f k h = absurd (omega arith)
+
+first-fits : (b : Bool) (f n : ℕ) → f ≤ n → cond b (suc f) 0 ≤ suc n
+first-fits true f n h = omega arith
+first-fits false f n h = omega arith
+
+pub digit-at : (line : List ℕ) (k : ℕ) → k < firstBad line → isDigit (getD line k 0) ≡ true
+unfolding firstBad
+digit-at [] k h = absurd (omega arith)
+digit-at (d ∷ line) zero h = first-is (isDigit d) (firstBad line) h
+digit-at (d ∷ line) (suc k) h = digit-at line k (first-gone (isDigit d) (firstBad line) k h)
+
+bad-fits : (line : List ℕ) → firstBad line ≤ length line
+unfolding firstBad
+bad-fits [] = omega arith
+bad-fits (d ∷ line) = first-fits (isDigit d) (firstBad line) (length line) (bad-fits line)
+
+pub some-bad : (line : List ℕ) → allDigits line ≡ false → firstBad line < length line
+some-bad line e = omega (arith, eqb-false (firstBad line) (length line) e, bad-fits line)
+
+-- a turn: the answer so far, and what is left of the line, decide
+pub all-turn : (line : List ℕ) (i : ℕ) (good here : Bool) → i < length line → here ≡ isDigit (getD line i 0)
+    → (good && here) && allDigits (drop (i + 1) line) ≡ good && allDigits (drop i line)
+unfolding firstBad
+all-turn line i true here h e = rw (drop-cons line i 0 h, e, add-one) (sym (first-decides (isDigit (getD line i 0)) _ _))
+all-turn line i false here h e = refl
+
+pub all-end : (line : List ℕ) (i : ℕ) (good : Bool) → length line ≤ i → good ≡ good && allDigits (drop i line)
+unfolding firstBad
+all-end line i true h = rw (drop-of-length-le line h)
+all-end line i false h = refl
 
 -- ------------------------------------------------------------------------
 -- Pairs of digits

@@ -1,16 +1,21 @@
 -- What the private functions give.
 -- Assumes nothing.
 use mathlib.Core.Path.{_≡_}
-use mathlib.Core.Bool.{true, false}
+use mathlib.Core.Bool.{Bool, true, false}
 use mathlib.Core.List.{List, _++_}
 use Prim.Native.Nat.{ℕ, _/_, _≤_, _<_}
-use lib.ListN.{take, drop}
+use lib.ListN.{length, take, drop}
+use lib.Dec.{eqb}
 use Rattle.rules.specs.FrameLine.{isDigit, valueOf, firstBad, decoded}
 
 -- v is the value of the digit d; above 15 where d is no digit
 pub record Valued (d v : ℕ) : Type 0 where
   pub good : v ≤ 15 → (isDigit d ≡ true) × (v ≡ valueOf d)
   pub bad : 15 < v → isDigit d ≡ false
+
+-- no byte is bad
+abbrev pub allDigits : List ℕ → Bool
+allDigits line = eqb (firstBad line) (length line)
 
 -- the frame of `readInto`, for a line of a good length
 unfoldable pub framed : List ℕ → List ℕ → List ℕ

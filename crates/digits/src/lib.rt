@@ -1,12 +1,13 @@
 // A frame line to its bytes, and an answer to its line.
 ghost use mathlib.Core.Path.{_≡_};
+ghost use mathlib.Core.Bool.{true};
 ghost use mathlib.Core.List.{_++_};
 ghost use Prim.Native.Nat.{_*_, _/_, _<_, _≤_};
 ghost use lib.ListN.{length, drop};
 ghost use Rattle.rules.specs.Answers.{refusalNumber, number as numberOf, answerBytes, digitOf, digitsOf};
 ghost use Rattle.rules.specs.FrameLine.{firstBad};
 ghost use Rattle.digits.specs.Digits.{readInto, wrote};
-ghost use Rattle.digits.specs.Steps.{Valued, framed};
+ghost use Rattle.digits.specs.Steps.{Valued, allDigits, framed};
 use rules::Answer;
 use rules::DIGITS;
 use rules::FRAME;
@@ -27,6 +28,35 @@ fn value(d: u8) -> u8
         return letter + 10;
     }
     16
+}
+
+// Whether every byte is a digit. It looks at every byte and does not stop at the first bad one: with no way out of the loop, the
+// compiler tests many bytes at a time.
+fn all_digits(line: &[u8]) -> bool
+    ensures { λ r. ⌜ r ≡ allDigits (now (line .entry)) ⌝ }
+{
+    let mut good = true;
+    let mut i = 0;
+    while i < line.len() {
+        good = good & (value(line[i]) < 16);
+        i += 1;
+    }
+    good
+}
+
+// The bytes of a line that has digits only go to the front of the frame, with no test on the way.
+fn decode_all(line: &[u8], frame: &mut [u8])
+    requires { ⌜ (allDigits (now line) ≡ true) × (length (now line) / 2 ≤ length (now frame)) ⌝ }
+    ensures { λ _. ⌜ now (frame .exit) ≡ framed (now (line .entry)) (now (frame .entry)) ⌝ }
+{
+    let n = line.len() / 2;
+    let mut i = 0;
+    while i < n {
+        let at = i * 2;
+        let next = at + 1;
+        frame[i] = value(line[at]) * 16 + value(line[next]);
+        i += 1;
+    }
 }
 
 // The bytes of the pairs of digits before the first bad one go to the front of the frame; its place is the answer.
@@ -60,7 +90,8 @@ fn decode(line: &[u8], frame: &mut [u8]) -> usize
     last + 1
 }
 
-// Reads a line into the front of the frame, and says how many bytes it has or why it is no frame line.
+// Reads a line into the front of the frame, and says how many bytes it has or why it is no frame line. A good line is gone through
+// twice, each time without a way out; only a line with a bad digit is decoded pair by pair, up to that digit.
 pub fn read_line(line: &[u8], frame: &mut [u8; FRAME]) -> LineRead
     ensures { λ r. ⌜ record { read = r; frame = now (frame .exit) } ≡ readInto (now (line .entry)) (now (frame .entry)) ⌝ }
 {
@@ -71,10 +102,10 @@ pub fn read_line(line: &[u8], frame: &mut [u8; FRAME]) -> LineRead
     if n > DIGITS {
         return LineRead::TooLong;
     }
-    let bad = decode(line, frame);
-    if bad < n {
-        return LineRead::BadDigit(bad);
+    if !all_digits(line) {
+        return LineRead::BadDigit(decode(line, frame));
     }
+    decode_all(line, frame);
     if n % 2 == 1 {
         return LineRead::Odd;
     }

@@ -41,7 +41,7 @@ use Rattle.drive.specs.declared.Access.{Access}
 use Rattle.drive.specs.declared.Access.the-variants.{Write, Reads, Neither}
 use Rattle.drive.specs.declared.Reach.{Reach}
 use Rattle.drive.specs.declared.Reach.the-variants.{Place, Unmanaged, Refused}
-use Rattle.drive.specs.Stepping.{state, Ready, accessOf, reached}
+use Rattle.drive.specs.Stepping.{state, Ready, accessOf, reached, Known}
 use Rattle.drive.proofs.FieldsLaws.{part-join, part-byte}
 
 -- ------------------------------------------------------------------------
@@ -147,9 +147,9 @@ module _ (s : State) (c : Command) where
       ∙ sym (settle-map (leads s c) (firstRefusal (keyChecks s c)) Refused (Place (placeOf (c .ns) (c .tag))))
   keyed-leads false = refl
 
-  known-leads : isWrite c || isReading c ≡ true → obey s (command s c) ≡ leads s c (reached s c)
+  opened-leads : isWrite c || isReading c ≡ true → obey s (command s c) ≡ leads s c (reached s c)
   unfolding command reached
-  known-leads e =
+  opened-leads e =
       judged-append (commandChecks c) (onlyIf (managed s (c .ns)) (keyChecks s c ++ onlyIf (isReading c) (markCheck s c))) (refuse s) _
       ∙ ap (λ b. judged (00·01 when not b ∷ rangeChecks) (refuse s) (later (managed s (c .ns)))) e
       ∙ ap (judged rangeChecks (refuse s)) (keyed-leads (managed s (c .ns)))
@@ -207,7 +207,7 @@ unfolding reached
 reached-marks drive keys marks c = refl
 
 -- ------------------------------------------------------------------------
--- The ways of `write` and `read`
+-- The ways of a write and of what reads
 
 module _ (c : Command) where
   write-not-read : isWrite c ≡ true → isReading c ≡ false
@@ -223,14 +223,12 @@ module _ (drive : Drive) (keys marks : List ℕ) (c : Command) where
   abbrev outcome : Outcome
   outcome = obey s (command s c)
 
-  leads-is : isWrite c || isReading c ≡ true → {r : Reach} → r ≡ reached (state drive keys []) c → leads s c r ≡ outcome
-  leads-is e q = sym (known-leads s c e ∙ ap (leads s c) (sym (q ∙ reached-marks drive keys marks c)))
+  known-is : (writes : Bool) → Known c writes → isWrite c || isReading c ≡ true
+  known-is true e = rw e
+  known-is false e = rw (read-not-write c e, e)
 
-  pub write-leads : isWrite c ≡ true → {r : Reach} → r ≡ reached (state drive keys []) c → leads s c r ≡ outcome
-  write-leads e = leads-is (rw e)
-
-  pub read-leads : isReading c ≡ true → {r : Reach} → r ≡ reached (state drive keys []) c → leads s c r ≡ outcome
-  read-leads e = leads-is (rw (read-not-write c e, e))
+  pub known-leads : (writes : Bool) → Known c writes → {r : Reach} → r ≡ reached (state drive keys []) c → leads s c r ≡ outcome
+  known-leads writes e q = sym (opened-leads s c (known-is writes e) ∙ ap (leads s c) (sym (q ∙ reached-marks drive keys marks c)))
 
   module _ {place : ℕ} (to : Place place ≡ reached (state drive keys []) c) where
     pub lands : Placed s c place
@@ -268,9 +266,9 @@ module _ (drive : Drive) (keys marks : List ℕ) (c : Command) where
 
       -- a write marks the blocks
       pub written : isWrite c ≡ true → record { answer = Done; state = state drive keys (marked (blockOf (c .ns) (c .first)) (c .more + 1) (part (place * slotWidth) markWidth keys) marks) } ≡ outcome
-      written e = rw covered-is (rw (write-not-read c e, e) at (write-leads e to))
+      written e = rw covered-is (rw (write-not-read c e, e) at (known-leads true e to))
 
       -- what reads is refused by the marks, or changes nothing
       pub read-by : {b : Bool} → b ≡ someDiffers (blockOf (c .ns) (c .first)) (c .more + 1) (part (place * slotWidth) markWidth keys) marks → isReading c ≡ true
           → judged (00·28 when b ∷ []) (refuse s) (record { answer = Done; state = s }) ≡ outcome
-      read-by q e = rw (q, wrong-is) (rw (e, read-not-write c e) at (read-leads e to))
+      read-by q e = rw (q, wrong-is) (rw (e, read-not-write c e) at (known-leads false e to))

@@ -23,7 +23,7 @@ use Rattle.rules.specs.Call.{callChecks, written}
 use mathlib.Core.Logic.{⊎-elim}
 use Rattle.rules.proofs.ChecksLaws.{judged-cases}
 use Rattle.rules.specs.Sessions.{joined, linesOf, endState, answerLines, roomForAll, Session, session}
-use Rattle.drive.specs.Running.{LineAt, Ran}
+use Rattle.drive.specs.Running.{NoFeed, LineAt, Ran}
 use Rattle.drive.proofs.LineLaws.{answer-small, wrote-line}
 use Rattle.drive.specs.declared.Answered.{Answered}
 use Rattle.drive.specs.Stepping.{state, left, Ready}
@@ -35,25 +35,25 @@ use Rattle.rules.proofs.Promised.{sound-kept}
 -- ------------------------------------------------------------------------
 -- Lines
 
-abbrev NoFeed : List ℕ → Type 0
-NoFeed p = (i : ℕ) → i < length p → getD p i 0 ≡ lineFeed → ⊥
+abbrev Feedless : List ℕ → Type 0
+Feedless p = (i : ℕ) → i < length p → getD p i 0 ≡ lineFeed → ⊥
 
-tail-feed : (b : ℕ) (p : List ℕ) → NoFeed (b ∷ p) → NoFeed p
+tail-feed : (b : ℕ) (p : List ℕ) → Feedless (b ∷ p) → Feedless p
 tail-feed b p h i l = h (suc i) (omega arith)
 
-line-then : (p rest : List ℕ) → NoFeed p → linesOf (p ++ (lineFeed ∷ rest)) ≡ p ∷ linesOf rest
+line-then : (p rest : List ℕ) → Feedless p → linesOf (p ++ (lineFeed ∷ rest)) ≡ p ∷ linesOf rest
 unfolding linesOf
 line-then [] rest h = refl
 line-then (b ∷ p) rest h =
     (rw (ne-eqb b lineFeed (h 0 (omega arith)))) ∙ ap (joined b) (line-then p rest (tail-feed b p h))
 
-last-line : (b : ℕ) (p : List ℕ) → NoFeed (b ∷ p) → linesOf (b ∷ p) ≡ (b ∷ p) ∷ []
+last-line : (b : ℕ) (p : List ℕ) → Feedless (b ∷ p) → linesOf (b ∷ p) ≡ (b ∷ p) ∷ []
 unfolding linesOf
 last-line b [] h = rw (ne-eqb b lineFeed (h 0 (omega arith)))
 last-line b (d ∷ p) h =
     (rw (ne-eqb b lineFeed (h 0 (omega arith)))) ∙ ap (joined b) (last-line d p (tail-feed b (d ∷ p) h))
 
-some-last : (p : List ℕ) → 0 < length p → NoFeed p → linesOf p ≡ p ∷ []
+some-last : (p : List ℕ) → 0 < length p → Feedless p → linesOf p ≡ p ∷ []
 some-last [] l h = absurd (omega arith)
 some-last (b ∷ p) l h = last-line b p h
 
@@ -61,8 +61,8 @@ pub no-lines : (text : List ℕ) (at : ℕ) → length text ≤ at → linesOf (
 unfolding linesOf
 no-lines text at h = rw (drop-of-length-le text h)
 
-module _ (text : List ℕ) (at i : ℕ) (starts : at ≤ i) (clean : (k : ℕ) → at ≤ k → k < i → getD text k 0 ≡ lineFeed → ⊥) where
-  clean-part : i ≤ length text → NoFeed (part at (i - at) text)
+module _ (text : List ℕ) (at i : ℕ) (starts : at ≤ i) (clean : NoFeed text at i) where
+  clean-part : i ≤ length text → Feedless (part at (i - at) text)
   clean-part h k l e =
       let n = length-part at (i - at) text (omega arith) in
       clean (at + k) (omega arith) (omega arith) (sym (getD-part at (i - at) k text (omega arith)) ∙ e)
@@ -91,10 +91,13 @@ module _ (text : List ℕ) (at i : ℕ) (starts : at ≤ i) (clean : (k : ℕ) �
   ended s e = record { starts = starts; ends = omega arith; goes-on = s; within = omega arith; splits = ap linesOf (all-at e) ∙ some-last (part at (i - at) text) (omega (arith, length-part at (i - at) text (omega arith))) (clean-part (omega arith)) ∙ ap (λ l. part at (i - at) text ∷ l) (sym (no-lines text i (omega arith))) }
 
 -- one byte more that is no line feed
-pub clean-more : (text : List ℕ) (at i : ℕ) → ((k : ℕ) → at ≤ k → k < i → getD text k 0 ≡ lineFeed → ⊥) → (getD text i 0 ≡ lineFeed → ⊥)
-    → (k : ℕ) → at ≤ k → k < i + 1 → getD text k 0 ≡ lineFeed → ⊥
+pub clean-more : (text : List ℕ) (at i : ℕ) → NoFeed text at i → (getD text i 0 ≡ lineFeed → ⊥) → NoFeed text at (i + 1)
 clean-more text at i h n k a b e =
     by-cases (decLt k i) (λ l. h k a l e) (λ g. let q : k ≡ i = omega arith in n (ap (λ j. getD text j 0) (sym q) ∙ e))
+
+-- a clean stretch, and another behind it
+pub clean-both : (text : List ℕ) (at i j : ℕ) → NoFeed text at i → NoFeed text i j → NoFeed text at j
+clean-both text at i j h g k a b e = by-cases (decLt k i) (λ l. h k a l e) (λ n. g k (omega arith) b e)
 
 -- ------------------------------------------------------------------------
 -- After some lines of a session: where it stands, and that what is left of it completes the whole

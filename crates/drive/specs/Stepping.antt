@@ -1,7 +1,7 @@
 -- What the drive's own functions leave, in terms of the rules.
 -- Assumes nothing.
 use mathlib.Core.Path.{_≡_}
-use mathlib.Core.Bool.{false, not, _||_, cond}
+use mathlib.Core.Bool.{Bool, true, false, not, _||_, cond}
 use mathlib.Core.List.{List, [], _∷_, _++_}
 use Prim.Native.Nat.{ℕ, _+_, _≤_}
 use lib.ListN.{length}
@@ -25,7 +25,7 @@ use Rattle.rules.specs.Slots.{placeOf, slotBytes, emptied, empty, loaded, uidOf
 use Rattle.rules.specs.Sound.{unsound}
 use Rattle.rules.specs.FrameLine.{byte}
 use Rattle.rules.specs.Frames.{Reading, badUidLength}
-use Rattle.rules.specs.Order.{frameRule, keyChecks}
+use Rattle.rules.specs.Order.{frameRule, keyChecks, isWrite, isReading}
 use Rattle.drive.specs.declared.Answered.{Answered}
 use Rattle.drive.specs.declared.Found.{Found}
 use Rattle.drive.specs.declared.Found.the-variants as found
@@ -99,6 +99,11 @@ clearAt s place =
 
 unfoldable pub accessOf : ℕ → Access
 accessOf opcode = cond (eqb opcode 0x01) Write (cond (eqb opcode 0x02 || eqb opcode 0x05 || eqb opcode 0x0C) Reads Neither)
+
+-- a known opcode: a write's, or that of a read, compare or verify
+abbrev pub Known : Command → Bool → Type 0
+Known c true = isWrite c ≡ true
+Known c false = isReading c ≡ true
 
 -- where a known command leads: a refusal before the marks are looked at, an unmanaged namespace, or a slot
 unfoldable pub reached : State → Command → Reach

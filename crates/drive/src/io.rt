@@ -1,6 +1,5 @@
 // I/O commands: their fields, the key check, the marks.
 ghost use mathlib.Core.Path.{_≡_};
-ghost use mathlib.Core.Bool.{true};
 ghost use mathlib.Core.List.{List, []};
 ghost use Prim.Native.Nat.{ℕ, _+_, _*_, _≤_, _<_};
 ghost use lib.ListN.{length};
@@ -10,10 +9,10 @@ ghost use Rattle.rules.specs.State.{obey};
 ghost use Rattle.rules.specs.Frames.{commandOf};
 ghost use Rattle.rules.specs.Numbers.{blocksEach, slotWidth, slotPlaces, cacheSize, markWidth};
 ghost use Rattle.rules.specs.Marks.{blockOf};
-ghost use Rattle.rules.specs.Order.{command as commandRule, isWrite, isReading};
+ghost use Rattle.rules.specs.Order.{command as commandRule};
 ghost use Rattle.rules.specs.Promises.{IsNamespace};
 ghost use Rattle.marks.specs.Store.{someDiffers, marked};
-ghost use Rattle.drive.specs.Stepping.{state, left, Ready, accessOf, reached};
+ghost use Rattle.drive.specs.Stepping.{state, left, Ready, accessOf, reached, Known};
 use crate::Access;
 use crate::Answered;
 use crate::Reach;
@@ -145,38 +144,39 @@ fn block_of(c: Command) -> usize
     (c.ns.0 as usize - 1) * BLOCKS + c.first as usize
 }
 
-fn write(drive: Drive, keys: &Cache, marks: &mut [u8], c: Command) -> Answered
-    requires { ⌜ Ready drive (now keys) (now marks) × (isWrite c ≡ true) ⌝ }
+// At a slot: a write marks the covered blocks; a read, compare or verify is held to their marks.
+fn at_place(
+    drive: Drive,
+    keys: &Cache,
+    marks: &mut [u8],
+    c: Command,
+    place: usize,
+    writes: bool,
+) -> Answered
+    requires { ⌜ Ready drive (now keys) (now marks) × Known c writes × (Reach.Place place ≡ reached (state drive (now keys) []) c) ⌝ }
+    ensures { λ r. ⌜ left r (now (keys .entry)) (now (marks .exit)) ≡ obey (state drive (now (keys .entry)) (now (marks .entry))) (commandRule (state drive (now (keys .entry)) (now (marks .entry))) c) ⌝ }
+{
+    let block = block_of(c);
+    let n = c.more as usize + 1;
+    if writes {
+        mark_covered(keys, marks, place, block, n);
+        return done(drive);
+    }
+    if wrong_key(keys, marks, place, block, n) {
+        return refused(drive, Refusal::IncorrectKey);
+    }
+    done(drive)
+}
+
+// A command with a known opcode.
+fn known(drive: Drive, keys: &Cache, marks: &mut [u8], c: Command, writes: bool) -> Answered
+    requires { ⌜ Ready drive (now keys) (now marks) × Known c writes ⌝ }
     ensures { λ r. ⌜ left r (now (keys .entry)) (now (marks .exit)) ≡ obey (state drive (now (keys .entry)) (now (marks .entry))) (commandRule (state drive (now (keys .entry)) (now (marks .entry))) c) ⌝ }
 {
     match reach(drive, keys, c) {
         Reach::Refused(r) => refused(drive, r),
         Reach::Unmanaged => done(drive),
-        Reach::Place(place) => {
-            let block = block_of(c);
-            let n = c.more as usize + 1;
-            mark_covered(keys, marks, place, block, n);
-            done(drive)
-        }
-    }
-}
-
-// Read, compare or verify: the marks stay.
-fn read(drive: Drive, keys: &Cache, marks: &[u8], c: Command) -> Answered
-    requires { ⌜ Ready drive (now keys) (now marks) × (isReading c ≡ true) ⌝ }
-    ensures { λ r. ⌜ left r (now (keys .entry)) (now (marks .entry)) ≡ obey (state drive (now (keys .entry)) (now (marks .entry))) (commandRule (state drive (now (keys .entry)) (now (marks .entry))) c) ⌝ }
-{
-    match reach(drive, keys, c) {
-        Reach::Refused(r) => refused(drive, r),
-        Reach::Unmanaged => done(drive),
-        Reach::Place(place) => {
-            let block = block_of(c);
-            let n = c.more as usize + 1;
-            if wrong_key(keys, marks, place, block, n) {
-                return refused(drive, Refusal::IncorrectKey);
-            }
-            done(drive)
-        }
+        Reach::Place(place) => at_place(drive, keys, marks, c, place, writes),
     }
 }
 
@@ -188,7 +188,7 @@ pub(crate) fn command(drive: Drive, keys: &Cache, marks: &mut [u8], c: Command) 
     let opcode = c.opcode;
     match access(opcode) {
         Access::Neither => refused(drive, Refusal::InvalidOpcode),
-        Access::Write => write(drive, keys, marks, c),
-        Access::Reads => read(drive, keys, marks, c),
+        Access::Write => known(drive, keys, marks, c, true),
+        Access::Reads => known(drive, keys, marks, c, false),
     }
 }

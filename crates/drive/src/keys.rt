@@ -9,7 +9,7 @@ ghost use Rattle.rules.specs.State.{obey, total as totalOf};
 ghost use Rattle.rules.specs.Sound.{unsound};
 ghost use Rattle.rules.specs.Order.{manage as manageRule, release as releaseRule, load as loadRule, replace as replaceRule, clearOne as clearOneRule, clearAll as clearAllRule};
 ghost use Rattle.rules.specs.Promises.{IsNamespace};
-ghost use Rattle.rules.specs.Slots.{FitKey};
+ghost use Rattle.rules.specs.Slots.{FitKey, otherKey};
 ghost use Rattle.drive.specs.Stepping.{state, left, Ready, loadAt, replaceAt, clearAt};
 use crate::Answered;
 use crate::Found;
@@ -108,14 +108,23 @@ pub(crate) fn clear_all(drive: Drive, keys: &mut Cache, ns: Namespace) -> Answer
     done(drive)
 }
 
+// 07 0C. In a sound state only allocated tags have a loaded slot, so that no other is looked at.
+fn other_key(drive: Drive, keys: &Cache, uid: &[u8], key: &[u8]) -> bool
+    requires { ⌜ unsound (state drive (now keys) []) ≡ false ⌝ }
+    ensures { λ r. ⌜ r ≡ otherKey (now (keys .entry)) (now (uid .entry)) (now (key .entry)) ⌝ }
+{
+    let counts = drive.counts;
+    slots::other_key(counts, keys, uid, key)
+}
+
 fn load_at(drive: Drive, keys: &mut Cache, place: usize, uid: &[u8], key: &[u8]) -> Answered
-    requires { ⌜ (place < slotPlaces) × FitKey (now uid) (now key) ⌝ }
+    requires { ⌜ (place < slotPlaces) × FitKey (now uid) (now key) × (unsound (state drive (now keys) []) ≡ false) ⌝ }
     ensures { λ r. ⌜ ((marks : List ℕ) → left r (now (keys .exit)) marks ≡ loadAt (state drive (now (keys .entry)) marks) place (now (uid .entry)) (now (key .entry))) ⌝ }
 {
     if slots::loaded(keys, place) {
         return refused(drive, Refusal::SlotOccupied);
     }
-    if slots::other_key(keys, uid, key) {
+    if other_key(drive, keys, uid, key) {
         return refused(drive, Refusal::OtherKey);
     }
     slots::store(keys, place, uid, key);
@@ -147,7 +156,7 @@ fn replace_at(
     uid: &[u8],
     key: &[u8],
 ) -> Answered
-    requires { ⌜ (place < slotPlaces) × FitKey (now uid) (now key) ⌝ }
+    requires { ⌜ (place < slotPlaces) × FitKey (now uid) (now key) × (unsound (state drive (now keys) []) ≡ false) ⌝ }
     ensures { λ r. ⌜ ((marks : List ℕ) → left r (now (keys .exit)) marks ≡ replaceAt (state drive (now (keys .entry)) marks) place (now (old .entry)) (now (uid .entry)) (now (key .entry))) ⌝ }
 {
     if !slots::loaded(keys, place) {
@@ -156,7 +165,7 @@ fn replace_at(
     if !slots::holds_uid(keys, place, old) {
         return refused(drive, Refusal::OtherOldKeyUid);
     }
-    if slots::other_key(keys, uid, key) {
+    if other_key(drive, keys, uid, key) {
         return refused(drive, Refusal::OtherKey);
     }
     slots::store(keys, place, uid, key);

@@ -1,11 +1,12 @@
 // A session's lines, one after another. The room, the store and soundness are judged before; each step keeps them.
 ghost use mathlib.Core.Path.{_≡_};
-ghost use Prim.Native.Nat.{_*_, _≤_, _<_};
+ghost use mathlib.Core.Bool.{true};
+ghost use Prim.Native.Nat.{_+_, _*_, _≤_, _<_};
 ghost use lib.ListN.{length};
 ghost use Rattle.rules.specs.Numbers.{answerMost};
 ghost use Rattle.rules.specs.Sessions.{linesOf};
 ghost use Rattle.drive.specs.Stepping.{state, Ready};
-ghost use Rattle.drive.specs.Running.{LineAt, Ran};
+ghost use Rattle.drive.specs.Running.{stride, NoFeed, LineAt, Ran};
 use crate::line::on_line;
 use rules::Cache;
 use rules::Drive;
@@ -24,12 +25,45 @@ pub(crate) struct Answers {
     pub bytes: usize,
 }
 
+// As many bytes as are looked through for a line feed at once.
+const STRIDE: usize = 32;
+
+// Whether the stride at `at` has no line feed. It does not stop at one, so that the compiler can take all bytes at once.
+fn clean_stride(text: &[u8], at: usize) -> bool
+    requires { ⌜ at + stride ≤ length (now text) ⌝ }
+    ensures { λ r. ⌜ (r ≡ true → NoFeed (now (text .entry)) at (at + stride)) ⌝ }
+{
+    let mut clean = true;
+    let mut k = 0;
+    while k < STRIDE {
+        let i = at + k;
+        clean = clean & (text[i] != LINE_FEED);
+        k += 1;
+    }
+    clean
+}
+
+// Past the clean strides from `at` on.
+fn skip_strides(text: &[u8], at: usize) -> usize
+    requires { ⌜ at ≤ length (now text) ⌝ }
+    ensures { λ r. ⌜ (at ≤ r) × (r ≤ length (now (text .entry))) × NoFeed (now (text .entry)) at r ⌝ }
+{
+    let mut i = at;
+    while text.len() - i >= STRIDE {
+        if !clean_stride(text, i) {
+            return i;
+        }
+        i += STRIDE;
+    }
+    i
+}
+
 // The line that starts at `at`. A last line without a line feed counts.
 fn next_line(text: &[u8], at: usize) -> Line
     requires { ⌜ at < length (now text) ⌝ }
     ensures { λ r. ⌜ LineAt (now (text .entry)) at (r .end) (r .next) ⌝ }
 {
-    let mut i = at;
+    let mut i = skip_strides(text, at);
     while i < text.len() {
         if text[i] == LINE_FEED {
             return Line {

@@ -72,11 +72,11 @@ pub fn shown(locks: BootLocks) -> u32
 {
     let lock0 = locks.partition0;
     let lock1 = locks.partition1;
-    lock_value(lock0) + 8 * lock_value(lock1)
+    lock_value(lock0) as u32 + 8 * lock_value(lock1) as u32
 }
 
 // A state's value in its field.
-fn lock_value(lock: Lock) -> u32
+pub fn lock_value(lock: Lock) -> u8
     ensures { λ r. ⌜ r ≡ lockValue lock ⌝ }
 {
     match lock {

@@ -2,17 +2,25 @@
 ghost use mathlib.Core.Path.{_≡_};
 ghost use Prim.Native.Nat.{_+_, _*_, _≤_, _<_};
 ghost use lib.ListN.{length};
-ghost use Rattle.cells.specs.Cells.{cell, put, fill};
+ghost use Rattle.cells.specs.Cells.{cell, copies, fill};
 ghost use Rattle.cells.specs.Tests.{someCell};
 ghost use Rattle.rules.specs.Numbers.{markWidth, markPlaces, storeSize};
 ghost use Rattle.rules.specs.Marks.{differs};
-ghost use Rattle.marks.specs.Store.{someDiffers, marked, zeroed};
+ghost use Rattle.marks.specs.Store.{run, someDiffers, marked, zeroed};
 use rules::BLOCKS;
 use rules::MARK;
 use rules::MARKS;
 use rules::NAMESPACES;
 use rules::Namespace;
 use rules::STORE;
+
+// So many marks are set, or compared, in one step, by a pattern that is the identity for each.
+const RUN: usize = 16;
+
+const PATTERN: usize = RUN * MARK;
+
+// From so many marks on, to make the pattern pays for setting them.
+const LONG: usize = 4 * RUN;
 
 // Whether the block has been written and its mark differs from this identity.
 fn mark_differs(marks: &[u8], block: usize, identity: &[u8]) -> bool
@@ -27,7 +35,8 @@ fn mark_differs(marks: &[u8], block: usize, identity: &[u8]) -> bool
     !cells::equal(&marks[a..e], identity)
 }
 
-fn differs_from(marks: &[u8], first: usize, n: usize, identity: &[u8]) -> bool
+// Whether one of the n blocks from first differs, block by block.
+fn differs_each(marks: &[u8], first: usize, n: usize, identity: &[u8]) -> bool
     requires { ⌜ (length (now marks) ≡ storeSize) × (first + n ≤ markPlaces) ⌝ }
     ensures { λ r. ⌜ r ≡ someCell markWidth first n (λ block m. differs (now (identity .entry)) m) (now (marks .entry)) ⌝ }
 {
@@ -40,6 +49,51 @@ fn differs_from(marks: &[u8], first: usize, n: usize, identity: &[u8]) -> bool
         k += 1;
     }
     false
+}
+
+// Whether one of a run's blocks differs. The pattern is the identity for each of them: a run that equals it has none that does.
+fn differs_in_run(marks: &[u8], first: usize, identity: &[u8], pattern: &[u8]) -> bool
+    requires { ⌜ (length (now marks) ≡ storeSize) × (first + run ≤ markPlaces) × (length (now identity) ≡ markWidth) × (now pattern ≡ copies run (now identity)) ⌝ }
+    ensures { λ r. ⌜ r ≡ someCell markWidth first run (λ block m. differs (now (identity .entry)) m) (now (marks .entry)) ⌝ }
+{
+    let a = first * MARK;
+    let e = a + PATTERN;
+    if cells::equal(&marks[a..e], pattern) {
+        return false;
+    }
+    differs_each(marks, first, RUN, identity)
+}
+
+// Whether one of the n blocks from first differs, run by run, and the rest block by block.
+fn differs_by_runs(marks: &[u8], first: usize, n: usize, identity: &[u8]) -> bool
+    requires { ⌜ (length (now marks) ≡ storeSize) × (first + n ≤ markPlaces) × (length (now identity) ≡ markWidth) ⌝ }
+    ensures { λ r. ⌜ r ≡ someCell markWidth first n (λ block m. differs (now (identity .entry)) m) (now (marks .entry)) ⌝ }
+{
+    let mut pattern = [0u8; PATTERN];
+    mark_each(&mut pattern, 0, RUN, identity);
+    let mut k = 0;
+    while RUN <= n - k {
+        let block = first + k;
+        if differs_in_run(marks, block, identity, &pattern) {
+            return true;
+        }
+        k += RUN;
+    }
+    let block = first + k;
+    differs_each(marks, block, n - k, identity)
+}
+
+fn differs_from(marks: &[u8], first: usize, n: usize, identity: &[u8]) -> bool
+    requires { ⌜ (length (now marks) ≡ storeSize) × (first + n ≤ markPlaces) ⌝ }
+    ensures { λ r. ⌜ r ≡ someCell markWidth first n (λ block m. differs (now (identity .entry)) m) (now (marks .entry)) ⌝ }
+{
+    if n < RUN {
+        return differs_each(marks, first, n, identity);
+    }
+    if identity.len() != MARK {
+        return differs_each(marks, first, n, identity);
+    }
+    differs_by_runs(marks, first, n, identity)
 }
 
 // 00 28: whether one of the n blocks from first has been written under another identity.
@@ -58,17 +112,50 @@ pub fn some_differs(marks: &[u8], first: usize, n: usize, identity: &[u8]) -> bo
     differs_from(marks, first, n, identity)
 }
 
-fn mark_from(marks: &mut [u8], first: usize, n: usize, identity: &[u8])
-    requires { ⌜ (length (now marks) ≡ storeSize) × (first + n ≤ markPlaces) × (length (now identity) ≡ markWidth) ⌝ }
+// The n marks from first, one by one. The function's own copy of the identity cannot overlap the marks, so a mark is two stores and not nine.
+fn mark_each(marks: &mut [u8], first: usize, n: usize, identity: &[u8])
+    requires { ⌜ ((first + n) * markWidth ≤ length (now marks)) × (length (now identity) ≡ markWidth) ⌝ }
     ensures { λ _. ⌜ now (marks .exit) ≡ fill markWidth first n (now (identity .entry)) (now (marks .entry)) ⌝ }
 {
+    let mut own = [0u8; MARK];
+    cells::copy(&mut own, identity);
     let mut k = 0;
     while k < n {
         let a = (first + k) * MARK;
         let e = a + MARK;
-        cells::copy(&mut marks[a..e], identity);
+        cells::copy(&mut marks[a..e], &own);
         k += 1;
     }
+}
+
+// The n marks from first, run by run, and the rest one by one.
+fn mark_by_runs(marks: &mut [u8], first: usize, n: usize, identity: &[u8])
+    requires { ⌜ ((first + n) * markWidth ≤ length (now marks)) × (length (now identity) ≡ markWidth) ⌝ }
+    ensures { λ _. ⌜ now (marks .exit) ≡ fill markWidth first n (now (identity .entry)) (now (marks .entry)) ⌝ }
+{
+    let mut pattern = [0u8; PATTERN];
+    mark_each(&mut pattern, 0, RUN, identity);
+    let mut k = 0;
+    while RUN <= n - k {
+        let block = first + k;
+        let a = block * MARK;
+        let e = a + PATTERN;
+        cells::copy(&mut marks[a..e], &pattern);
+        k += RUN;
+    }
+    let block = first + k;
+    mark_each(marks, block, n - k, identity);
+}
+
+fn mark_from(marks: &mut [u8], first: usize, n: usize, identity: &[u8])
+    requires { ⌜ ((first + n) * markWidth ≤ length (now marks)) × (length (now identity) ≡ markWidth) ⌝ }
+    ensures { λ _. ⌜ now (marks .exit) ≡ fill markWidth first n (now (identity .entry)) (now (marks .entry)) ⌝ }
+{
+    if n < LONG {
+        mark_each(marks, first, n, identity);
+        return;
+    }
+    mark_by_runs(marks, first, n, identity);
 }
 
 // The marks of the n blocks from first become this identity.

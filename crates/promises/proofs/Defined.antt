@@ -20,6 +20,7 @@ use Rattle.marks.proofs.mark.Met as marks-mark
 use Rattle.marks.proofs.zero_namespace.Met as marks-zero-namespace
 use Rattle.locks.proofs.decide.Met as locks-decide
 use Rattle.locks.proofs.shown.Met as locks-shown
+use Rattle.locks.proofs.lock_value.Met as locks-lock-value
 use Rattle.locks.proofs.boot_write.Met as locks-boot-write
 use Rattle.locks.proofs.both_locked.Met as locks-both-locked
 use Rattle.locks.proofs.set_locks.Met as locks-set-locks
@@ -74,24 +75,27 @@ defined = (
                                       (
                                         locks-shown.met,
                                         (
-                                          locks-boot-write.met,
+                                          locks-lock-value.met,
                                           (
-                                            locks-both-locked.met,
+                                            locks-boot-write.met,
                                             (
-                                              locks-set-locks.met,
+                                              locks-both-locked.met,
                                               (
-                                                locks-set-features.met,
+                                                locks-set-locks.met,
                                                 (
-                                                  drive-start.met,
+                                                  locks-set-features.met,
                                                   (
-                                                    drive-answer-line.met,
+                                                    drive-start.met,
                                                     (
-                                                      drive-answer-session.met,
+                                                      drive-answer-line.met,
                                                       (
-                                                        tuffaleen-c-start.met,
+                                                        drive-answer-session.met,
                                                         (
-                                                          tuffaleen-c-line.met,
-                                                          tuffaleen-c-session.met,
+                                                          tuffaleen-c-start.met,
+                                                          (
+                                                            tuffaleen-c-line.met,
+                                                            tuffaleen-c-session.met,
+                                                          ),
                                                         ),
                                                       ),
                                                     ),

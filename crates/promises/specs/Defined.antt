@@ -21,6 +21,7 @@ use Rattle.marks.proofs.mark.Statement as marks-mark
 use Rattle.marks.proofs.zero_namespace.Statement as marks-zero-namespace
 use Rattle.locks.proofs.decide.Statement as locks-decide
 use Rattle.locks.proofs.shown.Statement as locks-shown
+use Rattle.locks.proofs.lock_value.Statement as locks-lock-value
 use Rattle.locks.proofs.boot_write.Statement as locks-boot-write
 use Rattle.locks.proofs.both_locked.Statement as locks-both-locked
 use Rattle.locks.proofs.set_locks.Statement as locks-set-locks
@@ -55,6 +56,7 @@ Defined M =
     × (marks-zero-namespace.statement M
     × (locks-decide.statement M
     × (locks-shown.statement M
+    × (locks-lock-value.statement M
     × (locks-boot-write.statement M
     × (locks-both-locked.statement M
     × (locks-set-locks.statement M
@@ -64,4 +66,4 @@ Defined M =
     × (drive-answer-session.statement M
     × (tuffaleen-c-start.statement M
     × (tuffaleen-c-line.statement M
-    × tuffaleen-c-session.statement M))))))))))))))))))))))))))))
+    × tuffaleen-c-session.statement M)))))))))))))))))))))))))))))

@@ -40,6 +40,7 @@ use Rattle.marks.proofs.mark.Reads as marks-mark
 use Rattle.marks.proofs.zero_namespace.Reads as marks-zero-namespace
 use Rattle.locks.proofs.decide.Reads as locks-decide
 use Rattle.locks.proofs.shown.Reads as locks-shown
+use Rattle.locks.proofs.lock_value.Reads as locks-lock-value
 use Rattle.locks.proofs.boot_write.Reads as locks-boot-write
 use Rattle.locks.proofs.both_locked.Reads as locks-both-locked
 use Rattle.locks.proofs.set_locks as set-locks
@@ -120,6 +121,9 @@ Tight-locks-decide = Tight {Left = Changed} locks-decide.Asked locks-decide.Lear
 
 abbrev pub Tight-locks-shown : Type 0
 Tight-locks-shown = Tight {Left = ℕ} locks-shown.Asked locks-shown.Learnt (λ κs result exit. result)
+
+abbrev pub Tight-locks-lock-value : Type 0
+Tight-locks-lock-value = Tight {Left = ℕ} locks-lock-value.Asked locks-lock-value.Learnt (λ κs result exit. result)
 
 abbrev pub Tight-locks-boot-write : Type 0
 Tight-locks-boot-write = Tight {Left = Answer} locks-boot-write.Asked locks-boot-write.Learnt (λ κs result exit. result)

@@ -1,1 +1,3 @@
+pub mod AllocatedLaws
 pub mod CacheLaws
+pub mod ScanLaws

@@ -6,9 +6,9 @@ ghost use Rattle.cells.specs.Cells.{cell};
 ghost use Rattle.cells.specs.Tests.{same};
 ghost use lib.ListN.{length};
 ghost use Rattle.rules.specs.Numbers.{slotWidth, cacheSize};
-ghost use Rattle.rules.specs.Slots.{loaded as isLoaded, uidOf, otherKey};
+ghost use Rattle.rules.specs.Slots.{loaded as isLoaded, uidOf};
 ghost use Rattle.rules.specs.Sound.{unsound as isUnsound};
-ghost use Rattle.slots.specs.Cache.{stored, cleared, clearedNamespace, clearedAll};
+ghost use Rattle.slots.specs.Cache.{otherKeyAllocated, stored, cleared, clearedNamespace, clearedAll};
 
 mod bytes;
 mod scan;
@@ -34,11 +34,12 @@ pub fn holds_uid(keys: &Cache, place: usize, uid: &[u8]) -> bool
     bytes::holds_at(keys, place, uid)
 }
 
-// 07 0C: whether a loaded slot has this KeyUID and another key.
-pub fn other_key(keys: &Cache, uid: &[u8], key: &[u8]) -> bool
-    ensures { λ r. ⌜ r ≡ otherKey (now (keys .entry)) (now (uid .entry)) (now (key .entry)) ⌝ }
+// 07 0C: whether a loaded slot has this KeyUID and another key. It looks at allocated tags alone, a count above TAGS as TAGS:
+// where the state is sound no other slot is loaded (proofs/AllocatedLaws.antt).
+pub fn other_key(counts: [u8; NAMESPACES], keys: &Cache, uid: &[u8], key: &[u8]) -> bool
+    ensures { λ r. ⌜ r ≡ otherKeyAllocated counts (now (keys .entry)) (now (uid .entry)) (now (key .entry)) ⌝ }
 {
-    scan::other_key_in(keys, uid, key)
+    scan::other_key_in(counts, keys, uid, key)
 }
 
 // 07 0E: the paper's soundness scan. Its contract also tells the length that the type fixes, for the callers' proofs.

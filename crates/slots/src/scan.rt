@@ -1,15 +1,17 @@
-// The two scans over every slot: an equal KeyUID with another key, and soundness.
+// The two scans of the slots: an equal KeyUID with another key, and soundness.
 ghost use mathlib.Core.Path.{_≡_};
-ghost use mathlib.Core.Bool.{_||_};
+ghost use mathlib.Core.Bool.{false, _&&_, _||_};
 ghost use mathlib.Core.List.{[]};
-ghost use Prim.Native.Nat.{_%_, _<_};
+ghost use Prim.Native.Nat.{_+_, _*_, _%_, _≤_, _<_};
 ghost use lib.Dec.{leb, ltb};
 ghost use lib.ListN.{length};
 ghost use Rattle.cells.specs.Cells.{cell};
-ghost use Rattle.rules.specs.Numbers.{poolSlots, tagsMost, slotWidth, slotPlaces, cacheSize};
+ghost use Rattle.cells.specs.Tests.{someCell};
+ghost use Rattle.rules.specs.Numbers.{namespaces, poolSlots, tagsMost, slotWidth, slotPlaces, cacheSize};
 ghost use Rattle.rules.specs.State.{total};
-ghost use Rattle.rules.specs.Slots.{otherKeyIn, otherKey};
+ghost use Rattle.rules.specs.Slots.{otherKeyIn};
 ghost use Rattle.rules.specs.Sound.{someAbove, slotUnsound, unsound};
+ghost use Rattle.slots.specs.Cache.{otherKeyAllocated};
 use crate::bytes::same_key;
 use crate::bytes::same_uid;
 use rules::Drive;
@@ -34,24 +36,52 @@ fn other_key_at(keys: &[u8], place: usize, uid: &[u8], key: &[u8]) -> bool
     false
 }
 
-pub(crate) fn other_key_in(keys: &[u8], uid: &[u8], key: &[u8]) -> bool
-    requires { ⌜ length (now keys) ≡ cacheSize ⌝ }
-    ensures { λ r. ⌜ r ≡ otherKey (now (keys .entry)) (now (uid .entry)) (now (key .entry)) ⌝ }
+// Whether one of the n slots from first on has this KeyUID and another key.
+fn other_key_run(keys: &[u8], first: usize, n: usize, uid: &[u8], key: &[u8]) -> bool
+    requires { ⌜ (length (now keys) ≡ cacheSize) × (first + n ≤ slotPlaces) ⌝ }
+    ensures { λ r. ⌜ r ≡ someCell slotWidth first n (λ i c. otherKeyIn (now (uid .entry)) (now (key .entry)) c) (now (keys .entry)) ⌝ }
 {
-    let mut place = 0;
-    while place < SLOTS {
-        if other_key_at(keys, place, uid, key) {
+    let mut i = 0;
+    while i < n {
+        if other_key_at(keys, first + i, uid, key) {
             return true;
         }
-        place += 1;
+        i += 1;
     }
     false
 }
 
-// Whether a slot of a namespace with this tag count is unsound.
-fn slot_unsound(keys: &[u8], place: usize, count: u8) -> bool
+// The same of the slots of a namespace whose tag is below this count.
+fn other_key_below(keys: &[u8], ns: usize, count: u8, uid: &[u8], key: &[u8]) -> bool
+    requires { ⌜ (length (now keys) ≡ cacheSize) × (ns < namespaces) ⌝ }
+    ensures { λ r. ⌜ r ≡ someCell slotWidth (ns * tagsMost) tagsMost (λ i c. ltb (i % tagsMost) count && otherKeyIn (now (uid .entry)) (now (key .entry)) c) (now (keys .entry)) ⌝ }
+{
+    let first = ns * TAGS;
+    let n = count as usize;
+    if n > TAGS {
+        return other_key_run(keys, first, TAGS, uid, key);
+    }
+    other_key_run(keys, first, n, uid, key)
+}
+
+pub(crate) fn other_key_in(counts: [u8; NAMESPACES], keys: &[u8], uid: &[u8], key: &[u8]) -> bool
+    requires { ⌜ length (now keys) ≡ cacheSize ⌝ }
+    ensures { λ r. ⌜ r ≡ otherKeyAllocated counts (now (keys .entry)) (now (uid .entry)) (now (key .entry)) ⌝ }
+{
+    let mut i = 0;
+    while i < NAMESPACES {
+        if other_key_below(keys, i, counts[i], uid, key) {
+            return true;
+        }
+        i += 1;
+    }
+    false
+}
+
+// Whether a slot at an allocated tag is unsound.
+fn slot_unsound(keys: &[u8], place: usize) -> bool
     requires { ⌜ (length (now keys) ≡ cacheSize) × (place < slotPlaces) ⌝ }
-    ensures { λ r. ⌜ r ≡ slotUnsound (leb count (place % tagsMost)) (cell slotWidth place (now (keys .entry))) ⌝ }
+    ensures { λ r. ⌜ r ≡ slotUnsound false (cell slotWidth place (now (keys .entry))) ⌝ }
 {
     let a = place * SLOT;
     let n = keys[a] as usize;
@@ -59,15 +89,42 @@ fn slot_unsound(keys: &[u8], place: usize, count: u8) -> bool
         let e = a + SLOT;
         return !cells::all_zero(&keys[a..e]);
     }
-    if place % TAGS >= count as usize {
-        return true;
-    }
     if n > UID {
         return true;
     }
     let b = a + (1 + n);
     let e = b + (UID - n);
     !cells::all_zero(&keys[b..e])
+}
+
+// Whether one of the n slots from first on, all at allocated tags, is unsound.
+fn allocated_unsound(keys: &[u8], first: usize, n: usize) -> bool
+    requires { ⌜ (length (now keys) ≡ cacheSize) × (first + n ≤ slotPlaces) ⌝ }
+    ensures { λ r. ⌜ r ≡ someCell slotWidth first n (λ i c. slotUnsound false c) (now (keys .entry)) ⌝ }
+{
+    let mut i = 0;
+    while i < n {
+        if slot_unsound(keys, first + i) {
+            return true;
+        }
+        i += 1;
+    }
+    false
+}
+
+// Whether a slot of a namespace with this tag count is unsound: the allocated ones one by one, all behind them by one look for a byte
+// other than zero.
+fn namespace_unsound(keys: &[u8], ns: usize, count: usize) -> bool
+    requires { ⌜ (length (now keys) ≡ cacheSize) × (ns < namespaces) × (count ≤ tagsMost) ⌝ }
+    ensures { λ r. ⌜ r ≡ someCell slotWidth (ns * tagsMost) tagsMost (λ i c. slotUnsound (leb count (i % tagsMost)) c) (now (keys .entry)) ⌝ }
+{
+    let first = ns * TAGS;
+    if allocated_unsound(keys, first, count) {
+        return true;
+    }
+    let a = (first + count) * SLOT;
+    let e = a + (TAGS - count) * SLOT;
+    !cells::all_zero(&keys[a..e])
 }
 
 // A count above what a namespace may hold, or more in all than the pool has.
@@ -95,13 +152,13 @@ pub(crate) fn unsound_in(drive: Drive, keys: &[u8]) -> bool
     if counts_unsound(counts) {
         return true;
     }
-    let mut place = 0;
-    while place < SLOTS {
-        let ns = place / TAGS;
-        if slot_unsound(keys, place, counts[ns]) {
+    let mut ns = 0;
+    while ns < NAMESPACES {
+        let count = counts[ns] as usize;
+        if namespace_unsound(keys, ns, count) {
             return true;
         }
-        place += 1;
+        ns += 1;
     }
     false
 }

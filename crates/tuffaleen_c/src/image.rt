@@ -2,7 +2,6 @@
 ghost use mathlib.Core.Path.{_≡_};
 ghost use mathlib.Core.List.{[]};
 ghost use lib.ListN.{length};
-ghost use Rattle.rules.specs.Locks.{lockValue};
 ghost use Rattle.tuffaleen_c.specs.Image.{imageSize, lockOf, noLock, noImage, driveIn, keysIn, imageOf, saved};
 use rules::BootLocks;
 use rules::CACHE;
@@ -25,16 +24,6 @@ fn lock_of(b: u8) -> Lock
         1 => Lock::WriteUnlocked,
         3..=255 => Lock::WriteLockedUntilPowerCycle,
         _ => Lock::WriteLocked,
-    }
-}
-
-fn lock_byte(lock: Lock) -> u8
-    ensures { λ r. ⌜ r ≡ lockValue lock ⌝ }
-{
-    match lock {
-        Lock::WriteUnlocked => 1,
-        Lock::WriteLocked => 2,
-        Lock::WriteLockedUntilPowerCycle => 3,
     }
 }
 
@@ -93,8 +82,8 @@ pub(crate) fn write(image: &mut [u8], drive: Drive, keys: &Cache)
     let zero = locks.partition0;
     let one = locks.partition1;
     cells::copy(&mut image[..NAMESPACES], &counts);
-    image[NAMESPACES] = lock_byte(zero);
-    image[NAMESPACES + 1] = lock_byte(one);
+    image[NAMESPACES] = locks::lock_value(zero);
+    image[NAMESPACES + 1] = locks::lock_value(one);
     cells::copy(&mut image[HEAD..], keys);
 }
 

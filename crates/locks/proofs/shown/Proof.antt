@@ -9,8 +9,14 @@ use Rattle.locks.proofs.shown.Tie as tie
 lock-value-requires : tie.Need-lock-value-requires
 lock-value-requires c κs = search needs
 
+cast-result : tie.Need-cast-result
+cast-result c = search needs
+
 lock-value-requires-2 : tie.Need-lock-value-requires-2
 lock-value-requires-2 c κs = search needs
+
+cast-result-2 : tie.Need-cast-result-2
+cast-result-2 c = search needs
 
 mul-result : tie.Need-mul-result
 mul-result c = omega (arith, value-small (c .before .before .args .locks .partition1))
@@ -24,4 +30,4 @@ returns : tie.Need-returns
 returns c = search needs
 
 pub shown-spec : {M : Type 1} → statement M
-shown-spec = tie.close (tie.spec lock-value-requires lock-value-requires-2 mul-result add-result returns)
+shown-spec = tie.close (tie.spec lock-value-requires cast-result lock-value-requires-2 cast-result-2 mul-result add-result returns)

@@ -20,14 +20,14 @@ refused-requires c κs = search needs
 enum-told-2 : tie.Need-enum-told-2
 enum-told-2 c = search needs
 
-write-requires : tie.Need-write-requires
-write-requires c κs = (c .before .before .before .before .before .pre, opens (c .before .before .before .before .before .args .c) Write (sym (c .before .enum-told2 .given .1) ∙ c .before .before .before .access .ensures))
+known-requires : tie.Need-known-requires
+known-requires c κs = (c .before .before .before .before .before .pre, opens (c .before .before .before .before .before .args .c) Write (sym (c .before .enum-told2 .given .1) ∙ c .before .before .before .access .ensures))
 
 enum-told-3 : tie.Need-enum-told-3
 enum-told-3 c = search needs
 
-read-requires : tie.Need-read-requires
-read-requires c κs = (c .before .before .before .before .before .pre, opens (c .before .before .before .before .before .args .c) Reads (sym (c .before .enum-told3 .given .1) ∙ c .before .before .before .access .ensures))
+known-requires-2 : tie.Need-known-requires-2
+known-requires-2 c κs = (c .before .before .before .before .before .pre, opens (c .before .before .before .before .before .args .c) Reads (sym (c .before .enum-told3 .given .1) ∙ c .before .before .before .access .ensures))
 
 returns : tie.Need-returns
 returns c =
@@ -54,9 +54,9 @@ command-spec =
     enum-told
     refused-requires
     enum-told-2
-    write-requires
+    known-requires
     enum-told-3
-    read-requires
+    known-requires-2
     returns
     same-length
     returns-2

@@ -19,7 +19,7 @@ enum-known-place : tie.Need-enum-known-place
 enum-known-place c = search needs
 
 load-at-requires : tie.Need-load-at-requires
-load-at-requires c κs = (found-small (c .before .before .before .before .before .before .before .args .drive) (c .before .before .before .before .before .before .before .args .keys .now) (c .before .before .before .before .before .before .before .args .keys .now) (c .before .before .before .before .before .before .before .args .ns) (c .before .before .before .before .before .before .before .args .tag) (c .before .before .place .given .0 .0) (sym (c .before .before .place .given .1) ∙ c .before .before .before .before .locate .ensures) (c .before .before .before .before .before .before .before .pre .0), c .before .before .before .before .before .before .before .pre .1)
+load-at-requires c κs = (found-small (c .before .before .before .before .before .before .before .args .drive) (c .before .before .before .before .before .before .before .args .keys .now) (c .before .before .before .before .before .before .before .args .keys .now) (c .before .before .before .before .before .before .before .args .ns) (c .before .before .before .before .before .before .before .args .tag) (c .before .before .place .given .0 .0) (sym (c .before .before .place .given .1) ∙ c .before .before .before .before .locate .ensures) (c .before .before .before .before .before .before .before .pre .0), c .before .before .before .before .before .before .before .pre .1, c .before .before .before .before .before .before .before .pre .0)
 
 returns : tie.Need-returns
 returns c =

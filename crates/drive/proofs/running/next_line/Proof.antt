@@ -15,8 +15,11 @@ Inv-loop text at i₀ i = (at ≤ i) × (i ≤ length text) × ((k : ℕ) → at
 abbrev μ-loop : tie.MeasureT-loop
 μ-loop text at i₀ i = length text - i
 
+skip-strides-requires : tie.Need-skip-strides-requires Inv-loop μ-loop
+skip-strides-requires c κs = omega arith
+
 loop-holds : tie.Need-loop-holds Inv-loop μ-loop
-loop-holds c = (omega arith, omega arith, λ k a b e. omega arith)
+loop-holds c = c .skip-strides .ensures
 
 shared-slice-read-if1 : tie.Need-shared-slice-read-if1 Inv-loop μ-loop
 shared-slice-read-if1 c = omega arith
@@ -26,7 +29,7 @@ add-t8 c = omega arith
 
 returns : tie.Need-returns Inv-loop μ-loop
 returns c =
-    let s = c .before .before .before .before .args in
+    let s = c .before .before .before .before .before .before .args in
     let l = c .before .before .before .loop in
     fed (s .text .now) (s .at) (l .i) (l .inv .0) (l .inv .2) (omega arith) (c .if1 .taken)
 
@@ -38,13 +41,13 @@ loop-less c = omega arith
 
 loop-again : tie.Need-loop-again Inv-loop μ-loop
 loop-again c =
-    let s = c .before .before .before .before .args in
+    let s = c .before .before .before .before .before .before .args in
     let l = c .before .before .before .loop in
     (omega arith, omega arith, clean-more (s .text .now) (s .at) (l .i) (l .inv .2) (c .if1 .left))
 
 returns-2 : tie.Need-returns-2 Inv-loop μ-loop
 returns-2 c =
-    let s = c .before .before .args in
+    let s = c .before .before .before .before .args in
     let l = c .before .loop in
     ended (s .text .now) (s .at) (l .i) (l .inv .0) (l .inv .2) (omega arith) (omega arith)
 
@@ -54,6 +57,7 @@ next-line-spec =
     (tie.spec
     Inv-loop
     μ-loop
+    skip-strides-requires
     loop-holds
     shared-slice-read-if1
     add-t8

@@ -1,37 +1,60 @@
--- `other_key_in` meets its contract: no slot so far has this KeyUID and another key.
+-- `other_key_in` meets its contract: the namespaces that are left decide.
 -- Assumes nothing.
 use borrow.Author.Needs.{needs}
 use native.Mathlib.Omega.{arith}
-use mathlib.Core.Path.{_≡_, sym, ap, _∙_}
-use mathlib.Core.Bool.{false}
-use Prim.Native.Nat.{_-_, _≤_}
+use mathlib.Core.Path.{_≡_, refl, sym, ap, _∙_}
+use mathlib.Core.Bool.{Bool, _&&_, _||_}
+use mathlib.Core.List.{List}
+use Prim.Native.Nat.{ℕ, _+_, _-_, _*_, _%_, _≤_, _<_}
+use lib.ListN.{getD}
+use lib.Dec.{ltb}
 use Rattle.cells.specs.Tests.{someCell}
-use Rattle.cells.proofs.TestsLaws.{some-start, some-next, some-hit}
-use Rattle.rules.specs.Numbers.{slotWidth, slotPlaces}
-use Rattle.rules.specs.Slots.{otherKeyIn, otherKey}
+use Rattle.rules.specs.Numbers.{namespaces, tagsMost, slotWidth}
+use Rattle.rules.specs.Slots.{otherKeyIn}
+use Rattle.slots.specs.Cache.{allocated, otherKeyAllocated}
+use Rattle.slots.proofs.ScanLaws.{rest, rest-next, rest-end}
 use Rattle.slots.proofs.scan.other_key_in.Statement.{statement}
 use Rattle.slots.proofs.scan.other_key_in.Tie as tie
 
+abbrev test : List ℕ → List ℕ → List ℕ → ℕ → List ℕ → Bool
+test counts uid key i c = allocated counts i && otherKeyIn uid key c
+
+abbrev below : ℕ → List ℕ → List ℕ → ℕ → List ℕ → Bool
+below count uid key i c = ltb (i % tagsMost) count && otherKeyIn uid key c
+
+next : (counts keys uid key : List ℕ) (ns : ℕ) → ns < namespaces
+    → rest (test counts uid key) keys ns ≡ someCell slotWidth (ns * tagsMost) tagsMost (below (getD counts ns 0) uid key) keys || rest (test counts uid key) keys (ns + 1)
+next counts keys uid key ns h =
+    rest-next (test counts uid key) keys (below (getD counts ns 0) uid key) ns h
+    (λ i e c. ap (λ n. ltb (i % tagsMost) (getD counts n 0) && otherKeyIn uid key c) e)
+
 abbrev Inv-loop : tie.InvT-loop
-Inv-loop keys uid key place₀ place = (place ≤ slotPlaces) × (someCell slotWidth 0 place (λ i c. otherKeyIn uid key c) keys ≡ false)
+Inv-loop keys uid key counts i₀ i = (i ≤ namespaces) × (rest (test counts uid key) keys i ≡ rest (test counts uid key) keys 0)
 
 abbrev μ-loop : tie.MeasureT-loop
-μ-loop keys uid key place₀ place = slotPlaces - place
+μ-loop keys uid key counts i₀ i = namespaces - i
 
 loop-holds : tie.Need-loop-holds Inv-loop μ-loop
-loop-holds c = (search needs, some-start slotWidth _ 0 _)
+loop-holds c = (omega arith, refl)
 
-other-key-at-requires : tie.Need-other-key-at-requires Inv-loop μ-loop
-other-key-at-requires c κs = (search needs, omega arith)
+array-read-other-key-below : tie.Need-array-read-other-key-below Inv-loop μ-loop
+array-read-other-key-below c = omega arith
+
+other-key-below-requires : tie.Need-other-key-below-requires Inv-loop μ-loop
+other-key-below-requires c κs = (search needs, omega arith)
 
 returns : tie.Need-returns Inv-loop μ-loop
-unfolding otherKey
+unfolding otherKeyAllocated
 returns c =
     let s = c .before .before .before .before .before .before .before .args in
-    some-hit slotWidth (λ i d. otherKeyIn (s .uid .now) (s .key .now) d) 0 slotPlaces (c .before .before .before .loop .place) (s .keys .now) (omega arith) (omega arith) (sym (c .before .other-key-at .ensures) ∙ c .if1 .taken)
+    let l = c .before .before .before .loop in
+    let left = rest (test (s .t1) (s .uid .now) (s .key .now)) (s .keys .now) (l .i + 1) in
+    ap (λ b. b || left) (sym (c .if1 .taken) ∙ c .before .other-key-below .ensures)
+    ∙ sym (next (s .t1) (s .keys .now) (s .uid .now) (s .key .now) (l .i) (omega arith))
+    ∙ l .inv .1
 
-add-place : tie.Need-add-place Inv-loop μ-loop
-add-place c = omega arith
+add-i : tie.Need-add-i Inv-loop μ-loop
+add-i c = omega arith
 
 loop-less : tie.Need-loop-less Inv-loop μ-loop
 loop-less c = omega arith
@@ -40,14 +63,16 @@ loop-again : tie.Need-loop-again Inv-loop μ-loop
 loop-again c =
     let s = c .before .before .before .before .before .before .before .args in
     let l = c .before .before .before .loop in
-    (omega arith, some-next slotWidth (λ i d. otherKeyIn (s .uid .now) (s .key .now) d) 0 (l .place) (l .place) (s .keys .now) (omega arith) (l .inv .1) (sym (c .before .other-key-at .ensures) ∙ c .if1 .left))
+    let left = rest (test (s .t1) (s .uid .now) (s .key .now)) (s .keys .now) (l .i + 1) in
+    let miss = ap (λ b. b || left) (sym (c .if1 .left) ∙ c .before .other-key-below .ensures) in
+    (omega arith, miss ∙ sym (next (s .t1) (s .keys .now) (s .uid .now) (s .key .now) (l .i) (omega arith)) ∙ l .inv .1)
 
 returns-2 : tie.Need-returns-2 Inv-loop μ-loop
-unfolding otherKey
+unfolding otherKeyAllocated
 returns-2 c =
     let s = c .before .before .before .before .before .args in
-    let e : c .before .loop .place ≡ slotPlaces = omega arith in
-    sym (c .before .loop .inv .1) ∙ ap (λ n. someCell slotWidth 0 n (λ i d. otherKeyIn (s .uid .now) (s .key .now) d) (s .keys .now)) e
+    let l = c .before .loop in
+    sym (rest-end (test (s .t1) (s .uid .now) (s .key .now)) (s .keys .now) (l .i) (omega arith)) ∙ l .inv .1
 
 pub other-key-in-spec : {M : Type 1} → statement M
 other-key-in-spec =
@@ -56,9 +81,10 @@ other-key-in-spec =
     Inv-loop
     μ-loop
     loop-holds
-    other-key-at-requires
+    array-read-other-key-below
+    other-key-below-requires
     returns
-    add-place
+    add-i
     loop-less
     loop-again
     returns-2)

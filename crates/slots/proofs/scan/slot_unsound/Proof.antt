@@ -3,17 +3,16 @@
 use borrow.Author.Needs.{needs}
 use native.Mathlib.Omega.{arith}
 use mathlib.Core.Path.{_≡_, refl, sym, ap, _∙_}
-use mathlib.Core.Bool.{not}
-use Prim.Native.Nat.{_+_, _-_, _*_, _%_, _≤_, _<_}
+use mathlib.Core.Bool.{false, not}
+use Prim.Native.Nat.{_+_, _-_, _*_, _≤_}
 use lib.ListN.{getD}
-use lib.Dec.{leb}
-use borrow.Author.Tests.{eq-eqb, ne-eqb, le-leb, lt-leb}
+use borrow.Author.Tests.{eq-eqb, ne-eqb}
 use Rattle.cells.specs.Cells.{cell}
 use Rattle.cells.specs.Tests.{allZero}
 use Rattle.cells.proofs.CellsLaws.{lent-is, lent-cell}
-use Rattle.rules.specs.Numbers.{tagsMost, uidMost, slotWidth}
+use Rattle.rules.specs.Numbers.{uidMost, slotWidth}
 use Rattle.rules.specs.Slots.{uidLength}
-use Rattle.rules.proofs.SoundLaws.{empty-is, unallocated-is, long-is, rest-is}
+use Rattle.rules.proofs.SoundLaws.{empty-is, long-is, rest-is}
 use Rattle.slots.proofs.CacheLaws.{length-at, after-at}
 use Rattle.slots.proofs.scan.slot_unsound.Statement.{statement}
 use Rattle.slots.proofs.scan.slot_unsound.Tie as tie
@@ -48,21 +47,14 @@ returns c =
     let d = cell slotWidth (s .place) (s .keys .now) in
     let e = length-at (s .keys .now) (s .place) (c .before .before .before .before .before .pre .0) in
     ap not (c .all-zero .ensures ∙ ap allZero (lent-cell slotWidth (s .place) (s .keys .now)))
-    ∙ empty-is d (leb (s .count) (s .place % tagsMost)) (eq-eqb (uidLength d) 0 (e ∙ c .before .before .if1 .taken))
+    ∙ empty-is d false (eq-eqb (uidLength d) 0 (e ∙ c .before .before .if1 .taken))
 
 returns-2 : tie.Need-returns-2
 returns-2 c =
     let s = c .before .before .before .before .args in
     let d = cell slotWidth (s .place) (s .keys .now) in
     let e = length-at (s .keys .now) (s .place) (c .before .before .before .before .pre .0) in
-    rw (le-leb (s .count) (s .place % tagsMost) (c .if2 .taken)) (unallocated-is d (ne-eqb (uidLength d) 0 (λ z. c .before .if1 .left (sym e ∙ z))))
-
-returns-3 : tie.Need-returns-3
-returns-3 c =
-    let s = c .before .before .before .before .before .args in
-    let d = cell slotWidth (s .place) (s .keys .now) in
-    let e = length-at (s .keys .now) (s .place) (c .before .before .before .before .before .pre .0) in
-    long-is d (leb (s .count) (s .place % tagsMost)) (ne-eqb (uidLength d) 0 (λ z. c .before .before .if1 .left (sym e ∙ z))) (rw e (c .if3 .taken))
+    long-is d false (ne-eqb (uidLength d) 0 (λ z. c .before .if1 .left (sym e ∙ z))) (rw e (c .if2 .taken))
 
 add-b : tie.Need-add-b
 add-b c = search needs
@@ -85,19 +77,18 @@ part-all-zero-end-2 c = search needs
 all-zero-requires-2 : tie.Need-all-zero-requires-2
 all-zero-requires-2 c κs = search needs
 
-returns-4 : tie.Need-returns-4
-returns-4 c =
-    let s = c .before .before .before .before .before .before .before .args in
-    let p = c .before .before .before .before .before .before .before .pre in
+returns-3 : tie.Need-returns-3
+returns-3 c =
+    let s = c .before .before .before .before .before .before .args in
+    let p = c .before .before .before .before .before .before .pre in
     let n = getD (s .keys .now) (s .place * slotWidth) 0 in
     let small : n ≤ uidMost = omega arith in
-    let tag : s .place % tagsMost < s .count = omega arith in
     let some : n ≡ 0 → ⊥ = omega arith in
     let d = cell slotWidth (s .place) (s .keys .now) in
     let e = length-at (s .keys .now) (s .place) (p .0) in
     ap not (c .all-zero2 .ensures
     ∙ ap allZero (lent-is (s .place * slotWidth + (1 + n)) (uidMost - n) (s .keys .now) ∙ sym (after-at (s .keys .now) (s .place) (p .0) (p .1) n refl small)))
-    ∙ (rw (lt-leb (s .count) (s .place % tagsMost) tag) (rest-is d (ne-eqb (uidLength d) 0 (λ z. some (sym e ∙ z))) (rw e small)))
+    ∙ rest-is d (ne-eqb (uidLength d) 0 (λ z. some (sym e ∙ z))) (rw e small)
 
 pub slot-unsound-spec : {M : Type 1} → statement M
 slot-unsound-spec =
@@ -113,7 +104,6 @@ slot-unsound-spec =
     all-zero-requires
     returns
     returns-2
-    returns-3
     add-b
     add-b-2
     add-e-2
@@ -121,4 +111,4 @@ slot-unsound-spec =
     part-all-zero-start-2
     part-all-zero-end-2
     all-zero-requires-2
-    returns-4)
+    returns-3)

@@ -36,19 +36,19 @@ counts-four : (c : tie.After-copy) → length (c .copy .last .0) ≡ namespaces
 counts-four c = ap length (counts-are c) ∙ four (entry c)
 
 -- and the two lock bytes
-abbrev copied-counts : tie.After-lock-byte2 → tie.After-copy
+abbrev copied-counts : tie.After-lock-value2 → tie.After-copy
 copied-counts c = c .before .before .before .before
 
-abbrev head : tie.After-lock-byte2 → List ℕ
-head c = headed (entry (copied-counts c) .args .image .now) (copied-counts c .copy .last .0) (c .before .lock-byte .result) (c .lock-byte2 .result)
+abbrev head : tie.After-lock-value2 → List ℕ
+head c = headed (entry (copied-counts c) .args .image .now) (copied-counts c .copy .last .0) (c .before .lock-value .result) (c .lock-value2 .result)
 
-size : (c : tie.After-lock-byte2) → length (head c) ≡ imageSize
+size : (c : tie.After-lock-value2) → length (head c) ≡ imageSize
 size c =
     let p = copied-counts c in
-    length-headed (entry p .args .image .now) (p .copy .last .0) (c .before .lock-byte .result) (c .lock-byte2 .result) (entry p .pre) (counts-four p)
+    length-headed (entry p .args .image .now) (p .copy .last .0) (c .before .lock-value .result) (c .lock-value2 .result) (entry p .pre) (counts-four p)
 
 -- and the keys
-abbrev put-locks : tie.After-copy2 → tie.After-lock-byte2
+abbrev put-locks : tie.After-copy2 → tie.After-lock-value2
 put-locks c = c .before .before .before
 
 full : (c : tie.After-copy2) → length (entry (copied-counts (put-locks c)) .args .keys .now) ≡ cacheSize
@@ -63,11 +63,11 @@ keys-are c =
 written : (c : tie.After-copy2) →
     let b = put-locks c in
     let s = entry (copied-counts b) .args in
-    take headSize (head b) ++ (c .copy2 .last .0 ++ drop (length (head b) - headSize) (drop headSize (head b))) ≡ s .drive .counts ++ (b .before .lock-byte .result ∷ b .lock-byte2 .result ∷ s .keys .now)
+    take headSize (head b) ++ (c .copy2 .last .0 ++ drop (length (head b) - headSize) (drop headSize (head b))) ≡ s .drive .counts ++ (b .before .lock-value .result ∷ b .lock-value2 .result ∷ s .keys .now)
 written c =
     let b = put-locks c in
     let p = copied-counts b in
-    written-is (entry p .args .image .now) (p .copy .last .0) (b .before .lock-byte .result) (b .lock-byte2 .result) (entry p .pre) (counts-four p) (c .copy2 .last .0) (entry p .args .drive .counts) (entry p .args .keys .now) (counts-are p) (keys-are c)
+    written-is (entry p .args .image .now) (p .copy .last .0) (b .before .lock-value .result) (b .lock-value2 .result) (entry p .pre) (counts-four p) (c .copy2 .last .0) (entry p .args .drive .counts) (entry p .args .keys .now) (counts-are p) (keys-are c)
 
 slice-relend-prefix-copy : tie.Need-slice-relend-prefix-copy
 slice-relend-prefix-copy c = search needs
@@ -81,14 +81,14 @@ slice-aggregate-copy-2 c = search needs
 copy-requires : tie.Need-copy-requires
 copy-requires c κs = search needs
 
-lock-byte-requires : tie.Need-lock-byte-requires
-lock-byte-requires c κs = search needs
+lock-value-requires : tie.Need-lock-value-requires
+lock-value-requires c κs = search needs
 
 slice-write-image : tie.Need-slice-write-image
 slice-write-image c = search needs
 
-lock-byte-requires-2 : tie.Need-lock-byte-requires-2
-lock-byte-requires-2 c κs = search needs
+lock-value-requires-2 : tie.Need-lock-value-requires-2
+lock-value-requires-2 c κs = search needs
 
 add-image : tie.Need-add-image
 add-image c = search needs
@@ -96,7 +96,7 @@ add-image c = search needs
 slice-write-image-2 : tie.Need-slice-write-image-2
 slice-write-image-2 c =
     let p = copied-counts c in
-    omega (arith, length-counted (entry p .args .image .now) (p .copy .last .0) (c .before .lock-byte .result) (c .lock-byte2 .result) (entry p .pre) (counts-four p))
+    omega (arith, length-counted (entry p .args .image .now) (p .copy .last .0) (c .before .lock-value .result) (c .lock-value2 .result) (entry p .pre) (counts-four p))
 
 sub-copy : tie.Need-sub-copy
 sub-copy c = omega (arith, size c)
@@ -116,7 +116,7 @@ same-length c =
     let b = put-locks w in
     let s = entry (copied-counts b) in
     ap length (written w)
-    ∙ length-image (s .args .drive .counts) (s .args .keys .now) (b .before .lock-byte .result) (b .lock-byte2 .result) (four s) (full w)
+    ∙ length-image (s .args .drive .counts) (s .args .keys .now) (b .before .lock-value .result) (b .lock-value2 .result) (four s) (full w)
     ∙ sym (s .pre)
 
 returns : tie.Need-returns
@@ -125,7 +125,7 @@ returns c =
     let w = c .before .before in
     let b = put-locks w in
     let s = entry (copied-counts b) .args in
-    written w ∙ ap (λ x. s .drive .counts ++ (x ∷ b .lock-byte2 .result ∷ s .keys .now)) (b .before .lock-byte .ensures) ∙ ap (λ x. s .drive .counts ++ (lockValue (s .drive .locks .partition0) ∷ x ∷ s .keys .now)) (b .lock-byte2 .ensures)
+    written w ∙ ap (λ x. s .drive .counts ++ (x ∷ b .lock-value2 .result ∷ s .keys .now)) (b .before .lock-value .ensures) ∙ ap (λ x. s .drive .counts ++ (lockValue (s .drive .locks .partition0) ∷ x ∷ s .keys .now)) (b .lock-value2 .ensures)
 
 pub write-spec : {M : Type 1} → statement M
 write-spec =
@@ -135,9 +135,9 @@ write-spec =
     slice-aggregate-copy
     slice-aggregate-copy-2
     copy-requires
-    lock-byte-requires
+    lock-value-requires
     slice-write-image
-    lock-byte-requires-2
+    lock-value-requires-2
     add-image
     slice-write-image-2
     sub-copy

@@ -1,4 +1,4 @@
--- `differs_from` meets its contract: no block so far differs.
+-- `differs_each` meets its contract: no block so far differs.
 -- Assumes nothing.
 use borrow.Author.Needs.{needs}
 use native.Mathlib.Omega.{arith}
@@ -9,8 +9,8 @@ use Rattle.cells.specs.Tests.{someCell}
 use Rattle.cells.proofs.TestsLaws.{some-start, some-next, some-hit}
 use Rattle.rules.specs.Numbers.{markWidth}
 use Rattle.rules.specs.Marks.{differs}
-use Rattle.marks.proofs.differs_from.Statement.{statement}
-use Rattle.marks.proofs.differs_from.Tie as tie
+use Rattle.marks.proofs.differs_each.Statement.{statement}
+use Rattle.marks.proofs.differs_each.Tie as tie
 
 abbrev Inv-loop : tie.InvT-loop
 Inv-loop marks first n identity k₀ k = (k ≤ n) × (someCell markWidth first k (λ block m. differs identity m) marks ≡ false)
@@ -51,8 +51,8 @@ returns-2 c =
     let e : c .before .loop .k ≡ s .n = omega arith in
     sym (c .before .loop .inv .1) ∙ ap (λ j. someCell markWidth (s .first) j (λ block m. differs (s .identity .now) m) (s .marks .now)) e
 
-pub differs-from-spec : {M : Type 1} → statement M
-differs-from-spec =
+pub differs-each-spec : {M : Type 1} → statement M
+differs-each-spec =
     tie.close
     (tie.spec
     Inv-loop

@@ -1,0 +1,100 @@
+-- A scan of the cache by namespaces: what is left of it, namespace by
+-- namespace, and a namespace's slots up to its tag count and behind it.
+-- Assumes nothing.
+use mathlib.Core.Path.{_≡_, refl, sym, ap, _∙_}
+use mathlib.Core.Bool.{Bool, true, false, not, _&&_, _||_, true≢false, or-false}
+use mathlib.Core.List.{List, [], _∷_}
+use Prim.Native.Nat.{ℕ, _+_, _-_, _*_, _/_, _%_, _≤_, _<_}
+use native.Mathlib.Omega.{arith}
+use lib.Dec.{leb, ltb}
+use borrow.Author.Tests.{le-leb, lt-leb, lt-ltb, le-ltb}
+use Rattle.cells.specs.Cells.{part, cell}
+use Rattle.cells.specs.Tests.{allZero, someCell}
+use Rattle.cells.proofs.TestsLaws.{then-none, some-start, some-split, some-same, marked, some-marked}
+use Rattle.rules.specs.Numbers.{namespaces, tagsMost, slotWidth, slotPlaces}
+use Rattle.rules.specs.Slots.{empty}
+use Rattle.rules.specs.Sound.{slotUnsound}
+use Rattle.rules.proofs.SoundLaws.{empty-is, unallocated-is}
+
+-- ------------------------------------------------------------------------
+-- Namespace by namespace
+
+-- one of the slots from namespace ns on, counted from 0, is so
+abbrev pub rest : (ℕ → List ℕ → Bool) → List ℕ → ℕ → Bool
+rest f keys ns = someCell slotWidth (ns * tagsMost) ((namespaces - ns) * tagsMost) f keys
+
+module _ (f : ℕ → List ℕ → Bool) (keys : List ℕ) where
+  -- namespace ns, where the test is g, and the rest
+  pub rest-next : (g : ℕ → List ℕ → Bool) (ns : ℕ) → ns < namespaces → ((i : ℕ) → i / tagsMost ≡ ns → (c : List ℕ) → f i c ≡ g i c)
+      → rest f keys ns ≡ someCell slotWidth (ns * tagsMost) tagsMost g keys || rest f keys (ns + 1)
+  rest-next g ns h agree =
+      let n : (namespaces - ns) * tagsMost ≡ tagsMost + (namespaces - (ns + 1)) * tagsMost = omega arith in
+      let a : ns * tagsMost + tagsMost ≡ (ns + 1) * tagsMost = omega arith in
+      ap (λ k. someCell slotWidth (ns * tagsMost) k f keys) n
+      ∙ some-split slotWidth f (ns * tagsMost) tagsMost ((namespaces - (ns + 1)) * tagsMost) keys
+      ∙ ap (λ k. someCell slotWidth (ns * tagsMost) tagsMost f keys || someCell slotWidth k ((namespaces - (ns + 1)) * tagsMost) f keys) a
+      ∙ ap (λ b. b || rest f keys (ns + 1))
+      (some-same slotWidth f g (ns * tagsMost) tagsMost keys (λ k l. agree (ns * tagsMost + k) (omega arith) (cell slotWidth (ns * tagsMost + k) keys)))
+
+  pub rest-end : (ns : ℕ) → ns ≡ namespaces → rest f keys ns ≡ false
+  rest-end ns e = ap (rest f keys) e ∙ some-start slotWidth f slotPlaces keys
+
+-- ------------------------------------------------------------------------
+-- The tags of a namespace that are below a count
+
+-- a test of those alone, as a test of the first n slots: n is the count, or all where the count is above
+pub below-count : (f : ℕ → List ℕ → Bool) (keys : List ℕ) (ns count n : ℕ) → n ≤ tagsMost → n ≤ count → ((k : ℕ) → n ≤ k → k < tagsMost → count ≤ k)
+    → someCell slotWidth (ns * tagsMost) n f keys ≡ someCell slotWidth (ns * tagsMost) tagsMost (λ i c. ltb (i % tagsMost) count && f i c) keys
+below-count f keys ns count n h l above =
+    let first : ℕ = ns * tagsMost in
+    let g : ℕ → List ℕ → Bool = (λ i c. ltb (i % tagsMost) count && f i c) in
+    let e : n + (tagsMost - n) ≡ tagsMost = omega arith in
+    let t : (k : ℕ) → k < n → ltb ((ns * tagsMost + k) % tagsMost) count ≡ true = (λ k b. lt-ltb ((ns * tagsMost + k) % tagsMost) count (omega arith)) in
+    let tag : (k : ℕ) → k < tagsMost - n → (ns * tagsMost + n + k) % tagsMost ≡ n + k = (λ k b. omega arith) in
+    let u : (k : ℕ) → k < tagsMost - n → ltb ((ns * tagsMost + n + k) % tagsMost) count ≡ false =
+    (λ k b. le-ltb ((ns * tagsMost + n + k) % tagsMost) count (rw (tag k b) (above (n + k) (omega arith) (omega arith)))) in
+    let none = then-none slotWidth g (tagsMost - n) (first + n) keys (λ k b. ap (λ r. r && f (first + n + k) (cell slotWidth (first + n + k) keys)) (u k b)) in
+    some-same slotWidth f g first n keys (λ k b. ap (λ r. r && f (first + k) (cell slotWidth (first + k) keys)) (sym (t k b)))
+    ∙ sym (or-false (someCell slotWidth first n g keys))
+    ∙ ap (λ b. someCell slotWidth first n g keys || b) (sym none)
+    ∙ sym (some-split slotWidth g first n (tagsMost - n) keys)
+    ∙ ap (λ k. someCell slotWidth first k g keys) e
+
+-- ------------------------------------------------------------------------
+-- Soundness: a slot at an unallocated tag is sound when its bytes are zero
+
+loaded-marked : (c : List ℕ) → empty c ≡ false → allZero c ≡ false
+unfolding allZero
+loaded-marked [] e = absurd (true≢false e)
+loaded-marked (x ∷ xs) e = rw e
+
+pub unallocated-marked : (c : List ℕ) → slotUnsound true c ≡ not (allZero c)
+unallocated-marked c = go (empty c) refl
+  where
+    go : (b : Bool) → empty c ≡ b → slotUnsound true c ≡ not (allZero c)
+    go true e = sym (empty-is c true e)
+    go false e = sym (unallocated-is c e) ∙ ap not (sym (loaded-marked c e))
+
+-- the tests of a slot at an allocated tag, and of one in a namespace with this tag count
+abbrev pub allocatedUnsound : ℕ → List ℕ → Bool
+allocatedUnsound i c = slotUnsound false c
+
+abbrev pub unsoundBy : ℕ → ℕ → List ℕ → Bool
+unsoundBy count i c = slotUnsound (leb count (i % tagsMost)) c
+
+pub namespace-unsound : (keys : List ℕ) (ns count : ℕ) → count ≤ tagsMost
+    → someCell slotWidth (ns * tagsMost) tagsMost (unsoundBy count) keys
+    ≡ someCell slotWidth (ns * tagsMost) count allocatedUnsound keys || not (allZero (part ((ns * tagsMost + count) * slotWidth) ((tagsMost - count) * slotWidth) keys))
+namespace-unsound keys ns count h =
+    let first : ℕ = ns * tagsMost in
+    let n : tagsMost ≡ count + (tagsMost - count) = omega arith in
+    let below : (k : ℕ) → k < count → leb count ((ns * tagsMost + k) % tagsMost) ≡ false = (λ k l. lt-leb count ((ns * tagsMost + k) % tagsMost) (omega arith)) in
+    let above : (k : ℕ) → k < tagsMost - count → leb count ((ns * tagsMost + count + k) % tagsMost) ≡ true = (λ k l. le-leb count ((ns * tagsMost + count + k) % tagsMost) (omega arith)) in
+    ap (λ k. someCell slotWidth first k (unsoundBy count) keys) n
+    ∙ some-split slotWidth (unsoundBy count) first count (tagsMost - count) keys
+    ∙ ap (λ b. b || someCell slotWidth (first + count) (tagsMost - count) (unsoundBy count) keys)
+    (some-same slotWidth (unsoundBy count) allocatedUnsound first count keys (λ k l. ap (λ u. slotUnsound u (cell slotWidth (first + k) keys)) (below k l)))
+    ∙ ap (λ b. someCell slotWidth first count allocatedUnsound keys || b)
+    (some-same slotWidth (unsoundBy count) marked (first + count) (tagsMost - count) keys
+    (λ k l. ap (λ u. slotUnsound u (cell slotWidth (first + count + k) keys)) (above k l) ∙ unallocated-marked (cell slotWidth (first + count + k) keys))
+    ∙ sym (some-marked slotWidth (first + count) (tagsMost - count) keys))
