@@ -32,7 +32,7 @@ fn main() {
     print("mixed, call by call; model on its own state", lines(&mixed, false));
     print("mixed, call by call; model from and to image", lines(&mixed, true));
     println!(
-        "\nbench: {FRAMES} mixed frames: proved / model = {:.2}; asked: at most 2",
+        "\nbench: {FRAMES} mixed frames: proved / model = {:.2}; the goal is at most 1.0, above 1.5 is a fault",
         whole.ratio()
     );
 }

@@ -2,22 +2,20 @@
 -- `rules` says, and `rules` keeps them.
 -- Assumes nothing.
 use mathlib.Core.Path.{_≡_, refl, sym, ap, _∙_}
-use mathlib.Core.Bool.{not}
 use mathlib.Core.Logic.{_⊎_, inl, inr, ⊎-elim}
 use mathlib.Core.List.{List, [], _∷_, _++_, append-assoc, append-nil}
 use Prim.Native.Nat.{ℕ}
 use lib.ListN.{length}
-use lib.Dec.{eqb}
 use Rattle.rules.specs.declared.Refusal.{Refusal}
+use Rattle.rules.specs.declared.Answer.{Answer}
 use Rattle.rules.specs.declared.Answer.the-variants.{Done, Refused}
 use Rattle.rules.specs.Checks.{Check, _when_, Verdict, passed, refused, firstRefusal, settle, judged, AllPass, FirstToFail}
-use Rattle.rules.specs.Numbers.{storeSize}
 use Rattle.rules.specs.Answers.{answerLine, 07·0D}
-use Rattle.rules.specs.State.{State, Outcome, Rule, refuse, obey}
+use Rattle.rules.specs.State.{State, Outcome, Rule, refuse, obey, wrongStore}
 use Rattle.rules.specs.Order.{step, lineRule}
 use Rattle.rules.specs.Start.{fresh, freshWith, start}
 use Rattle.rules.specs.Call.{Called, callChecks, roomFor, written, call}
-use Rattle.rules.specs.Sessions.{Session, linesOf, endState, answerLines, roomForAll, session}
+use Rattle.rules.specs.Sessions.{Session, linesOf, endState, answerLines, session}
 use Rattle.rules.specs.History.{Event}
 use Rattle.rules.specs.Promises.{after, history}
 use Rattle.rules.proofs.ChecksLaws.{first-refusal, then-pass, judged-append, judged-pass, judged-map}
@@ -27,7 +25,7 @@ use Rattle.rules.proofs.StepLaws.{accepts-line}
 use Rattle.rules.proofs.Promised as rules
 use Rattle.rules.proofs.HistoryLaws.{kept-after}
 use Rattle.promises.specs.Leaves.{CallLeaves, SessionLeaves}
-use Rattle.promises.specs.Demands.{checksOf, RefusedWhen, DoneWhen, RefusedKeeps, Writes, SessionRefusedWhen, SessionRefusedKeeps, told, texts, SessionAnswers, SinceStart, started, answered, unread, no-session, SlotAsTold, SameIdentityOrNever, OneKeyForAKeyUid, NeverUnsound}
+use Rattle.promises.specs.Demands.{checksOf, RefusedWhen, DoneWhen, RefusedKeeps, Writes, SessionRefusedWhen, SessionRefusedKeeps, told, texts, SessionAnswers, sessionChecks, SinceStart, started, answered, unread, no-session, Answers, by-call, in-session, SlotAsTold, SameIdentityOrNever, OneKeyForAKeyUid, LoadFindsNothing, CountAsTold, PoolTooSmallWhen, NeverUnsound}
 use Rattle.promises.specs.Demands as demands
 use Rattle.promises.proofs.LeavesLaws.{start-is, call-is, session-is}
 
@@ -107,17 +105,17 @@ writes s line out left l =
 abbrev judgedOnce : State → List (Check Refusal) → Rule
 judgedOnce s cs = record { checks = cs; answer = Done; effect = s }
 
-result-judged : (s : State) (text out : List ℕ) (left : Session) → SessionLeaves s text out left → left .result ≡ obey s (judgedOnce s (callChecks s (roomForAll (linesOf text)) out)) .answer
+result-judged : (s : State) (text out : List ℕ) (left : Session) → SessionLeaves s text out left → left .result ≡ obey s (judgedOnce s (sessionChecks s text out)) .answer
 unfolding session
 result-judged s text out left l =
-    let cs = callChecks s (roomForAll (linesOf text)) out in
+    let cs = sessionChecks s text out in
     ap (λ (c : Session). c .result) (session-is s text out left l)
     ∙ judged-map cs (λ (c : Session). c .result) _ _
     ∙ sym (judged-map cs (λ (o : Outcome). o .answer) (refuse s) (done (judgedOnce s cs)))
 
 pub session-refused-when : SessionRefusedWhen
 session-refused-when s text out left l r =
-    let cs = callChecks s (roomForAll (linesOf text)) out in
+    let cs = sessionChecks s text out in
     let e = result-judged s text out left l in
     let w = state.refused-when s (judgedOnce s cs) r refl in
     (λ p. w .0 (sym e ∙ p), λ f. e ∙ w .1 f)
@@ -140,21 +138,13 @@ ran s text out =
     let answers = answerLines s (linesOf text) in
     record { result = Done; state = endState s (linesOf text); lines = length (linesOf text); bytes = length answers; out = written answers out }
 
-session-ran : (s : State) (text out : List ℕ) (left : Session) → SessionLeaves s text out left → AllPass (callChecks s (roomForAll (linesOf text)) out) → left ≡ ran s text out
+session-ran : (s : State) (text out : List ℕ) (left : Session) → SessionLeaves s text out left → AllPass (sessionChecks s text out) → left ≡ ran s text out
 unfolding session ran
-session-ran s text out left l p = session-is s text out left l ∙ judged-pass (callChecks s (roomForAll (linesOf text)) out) _ _ p
+session-ran s text out left l p = session-is s text out left l ∙ judged-pass (sessionChecks s text out) _ _ p
 
 pub session-answers : SessionAnswers
 unfolding ran texts
-session-answers s text out left l p = rw (session-ran s text out left l p, texts-told s (linesOf text) []) (refl, (refl, (refl, refl)))
-
--- a session that is done passed its checks
-session-done : (s : State) (text out : List ℕ) (left : Session) → SessionLeaves s text out left → left .result ≡ Done → left ≡ ran s text out
-session-done s text out left l e =
-    ⊎-elim
-    (λ f. absurd (accepted-not Done (f .0) refl (sym e ∙ session-refused-when s text out left l (f .0) .1 (f .1 .0))))
-    (λ p. session-ran s text out left l (p .0))
-    (by-verdict (callChecks s (roomForAll (linesOf text)) out) Refused Done)
+session-answers s text out left l p = rw (session-ran s text out left l p, texts-told s (linesOf text) []) (refl, (refl, (refl, (refl, refl))))
 
 -- ------------------------------------------------------------------------
 -- Demand 3: state and history since the start are those of the same lines from
@@ -184,7 +174,7 @@ more h s [] f = f
 more h s (line ∷ lines) f = more _ (step s line .state) lines (one-more h s line f)
 
 storeCheck : List ℕ → List (Check Refusal)
-storeCheck store = 07·0D when not (eqb (length store) storeSize) ∷ []
+storeCheck store = 07·0D when wrongStore store ∷ []
 
 starts-fresh : (store : List ℕ) → start store .answer ≡ Done → start store .state ≡ fresh
 unfolding start storeCheck
@@ -201,8 +191,19 @@ from-fresh h s (started store left l e) =
     record { is-state = ap (λ (o : Outcome). o .state) i ∙ starts-fresh store (sym (ap (λ (o : Outcome). o .answer) i) ∙ e); is-told = refl }
 from-fresh h s (answered h′ s′ since line out left l p) = rw (call-read s′ line out left l p) (one-more h′ s′ line (from-fresh h′ s′ since))
 from-fresh h s (unread h′ s′ since line out left l r f) = rw (call-unread s′ line out left l r f) (from-fresh h′ s′ since)
-from-fresh h s (demands.session h′ s′ since text out left l e) = rw (session-done s′ text out left l e) (more h′ s′ (linesOf text) (from-fresh h′ s′ since))
-from-fresh h s (no-session h′ s′ since text out left l r e) = rw (session-refused-keeps s′ text out left l r e) (from-fresh h′ s′ since)
+from-fresh h s (demands.session h′ s′ since text out left l p) = rw (session-ran s′ text out left l p) (more h′ s′ (linesOf text) (from-fresh h′ s′ since))
+from-fresh h s (no-session h′ s′ since text out left l r f) =
+    rw (session-refused-keeps s′ text out left l r (session-refused-when s′ text out left l r .1 f)) (from-fresh h′ s′ since)
+
+-- a line that is answered takes one step
+record Steps (h : List Event) (s : State) (line : List ℕ) (answer : Answer) : Type 0 where
+  since : FromFresh h s
+  is-answer : answer ≡ step s line .answer
+
+steps : (h : List Event) (s : State) (line : List ℕ) (answer : Answer) → Answers h s line answer → Steps h s line answer
+unfolding read
+steps h s line answer (by-call h′ s′ since line′ out left l p) = record { since = from-fresh h′ s′ since; is-answer = ap (λ (c : Called). c .answer) (call-read s′ line′ out left l p) }
+steps h s line answer (in-session h′ s′ since text out left l p before after line′ e) = record { since = more h′ s′ before (from-fresh h′ s′ since); is-answer = refl }
 
 pub slot-as-told : SlotAsTold
 slot-as-told h s since ns tag is =
@@ -216,8 +217,22 @@ one-key-for-a-key-uid h s since ns ns′ tag tag′ uid key key′ is is′ =
 pub never-unsound : NeverUnsound
 never-unsound h s since = rw (from-fresh h s since .is-state) (kept-after (linesIn h) .sound)
 
-pub same-identity-or-never : SameIdentityOrNever
-unfolding read
-same-identity-or-never h s since line out left l p c =
+pub count-as-told : CountAsTold
+count-as-told h s since ns is =
     let f = from-fresh h s since in
-    rw (call-read s line out left l p, f .is-told, f .is-state) (rules.same-identity-or-never (linesIn h) line c)
+    rw (f .is-told, f .is-state) (rules.count-as-told (linesIn h) ns is)
+
+pub same-identity-or-never : SameIdentityOrNever
+same-identity-or-never h s line answer a c =
+    let t = steps h s line answer a in
+    rw (t .is-answer, t .since .is-told, t .since .is-state) (rules.same-identity-or-never (linesIn h) line c)
+
+pub load-finds-nothing : LoadFindsNothing
+load-finds-nothing h s line answer a ns tag uid key is =
+    let t = steps h s line answer a in
+    rw (t .is-answer, t .since .is-told, t .since .is-state) (rules.load-finds-nothing (linesIn h) line ns tag uid key is)
+
+pub pool-too-small-when : PoolTooSmallWhen
+pool-too-small-when h s line answer a ns tags r =
+    let t = steps h s line answer a in
+    rw (t .is-answer, t .since .is-told, t .since .is-state) (rules.pool-too-small-when (linesIn h) line ns tags r)

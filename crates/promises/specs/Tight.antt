@@ -53,7 +53,7 @@ use Rattle.tuffaleen_c.proofs.tuffaleen_line.Reads as tuffaleen-c-line
 use Rattle.tuffaleen_c.proofs.tuffaleen_session.Reads as tuffaleen-c-session
 
 -- A function's contract as its callers know it: `asks` is what they must show of the arguments; `tells` what they learn of the arguments, the result, and what was lent as it is at the exit (exit .0 for the first parameter, exit .1 .0 for the second, and so on). `left` puts together all that a call leaves.
--- The contract is tight: it asks nothing, and any two outcomes that it allows are the same.
+-- The contract is tight: it asks nothing, and any two outcomes that it allows are the same. (That there is one is Defined.)
 abbrev pub Tight : {Lifetimes : Type 0} {Args Result Exit : Lifetimes → Type 0} {Left : Type 0} → ((κs : Lifetimes) → Args κs → Type 0) → ((κs : Lifetimes) → Args κs → Result κs → Exit κs → Type 0) → ((κs : Lifetimes) → Result κs → Exit κs → Left) → Type 0
 Tight {Lifetimes} {Args} {Result} {Exit} asks tells left =
     ((κs : Lifetimes) (args : Args κs) → asks κs args)
@@ -131,7 +131,7 @@ Tight-locks-boot-write = Tight {Left = Answer} locks-boot-write.Asked locks-boot
 abbrev pub Tight-locks-both-locked : Type 0
 Tight-locks-both-locked = Tight {Left = BootLocks} locks-both-locked.Asked locks-both-locked.Learnt (λ κs result exit. result)
 
--- set_locks is lent a struct, so that its callers know its contract as assertions of the program logic.
+-- set_locks is lent a struct, so that its callers know its contract as assertions of the program logic: what it requires follows from nothing (`ent emp`), and two of what it ensures together (`conj`) give that the outcomes are the same.
 abbrev pub Tight-locks-set-locks : Type 2
 Tight-locks-set-locks =
     (w : World) (κs : Lfts 1) (args : ArgsD set-locks.signature κs)

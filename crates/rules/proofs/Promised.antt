@@ -21,13 +21,14 @@ use Rattle.rules.specs.State.{State, Outcome, refuse, obey, managed}
 use Rattle.rules.specs.Slots.{slot, empty, loaded, uidOf, keyOf, Held, nothing, holding, held}
 use Rattle.rules.specs.Marks.{mark, neverWritten, identityOf, differs}
 use Rattle.rules.specs.declared.Command.{Command}
-use Rattle.rules.specs.Frames.{manage, load, io}
+use Rattle.rules.specs.Frames.{manage, load, io, reset}
+use Rattle.rules.specs.Effects.{emptyAllSlots}
 use Rattle.rules.specs.Order as order
 use Rattle.rules.specs.Order.{frameRule, frameOf, lineRule, step, isReading, commandChecks, keyChecks, markCheck, wrongKey}
 use Rattle.rules.specs.Call.{callChecks, roomFor, written, Called, call}
 use Rattle.rules.specs.Sessions.{linesOf, endState, answerLines, roomForAll, Session, session}
 use Rattle.rules.specs.History.{Event, holds, covers, lastWritten}
-use Rattle.rules.specs.Promises.{after, history, IsNamespace, SlotAsTold, SameIdentityOrNever, OneKeyForAKeyUid, LoadFindsNothing, CountAsTold, PoolTooSmallWhen, RefusedWhen, RefusedKeeps, CallRefusedKeeps, SessionRefusedKeeps, SoundKept, HeldUntilPowerCycle}
+use Rattle.rules.specs.Promises.{after, history, IsNamespace, SlotAsTold, SameIdentityOrNever, OneKeyForAKeyUid, LoadFindsNothing, CountAsTold, PoolTooSmallWhen, RefusedWhen, RefusedKeeps, CallRefusedKeeps, SessionRefusedKeeps, SoundKept, HeldUntilPowerCycle, ControllerResetKeeps, PowerCycleLocks}
 use Rattle.rules.proofs.ChecksLaws.{judged-append, judged-pass, judged-cases}
 use Rattle.rules.proofs.StateLaws as state
 use Rattle.rules.proofs.StateLaws.{done, accepted-not, is-namespace}
@@ -142,6 +143,17 @@ held-until-power-cycle s line p h =
     (λ r. inl (rw (r .1) h))
     (λ t. rw (t .is) (held-effect s p (frameOf line) (t .passes) h))
     (refused-or-taken s line)
+
+-- ------------------------------------------------------------------------
+-- Resets
+
+pub controller-reset-keeps : ControllerResetKeeps
+unfolding frameRule order.reset
+controller-reset-keeps s line r = read-as s line (reset 0) r
+
+pub power-cycle-locks : PowerCycleLocks
+unfolding frameRule order.reset emptyAllSlots
+power-cycle-locks s line r = rw (read-as s line (reset 1) r) (refl, refl)
 
 -- ------------------------------------------------------------------------
 -- The mark check

@@ -5,10 +5,11 @@
 use mathlib.Core.Path.{_≡_}
 use mathlib.Core.Bool.{Bool, true, _&&_}
 use mathlib.Core.List.{List, [], _∷_}
-use Prim.Native.Nat.{ℕ}
+use Prim.Native.Nat.{ℕ, _*_}
 use Prim.Native.Char.{code}
 use Prim.Native.String.{String, _++_, [] as end, _∷_ as _then_}
 use lib.ListN.{take}
+use lib.Dec.{eqb}
 use Rattle.cells.specs.Cells.{zeros}
 use Rattle.cells.specs.Tests.{same}
 use Rattle.rules.specs.declared.Lock.{Lock}
@@ -18,6 +19,7 @@ use Rattle.rules.specs.State.{State}
 use Rattle.rules.specs.Locks.{sameLock}
 use Rattle.rules.specs.Start.{fresh}
 use Rattle.rules.specs.Call.{call}
+use Rattle.rules.specs.Sessions.{session}
 
 -- ------------------------------------------------------------------------
 -- A row: lines with their answers, and states of the two boot partitions in between
@@ -97,6 +99,12 @@ table =
     ∷ "09" answers "000012000000" ∷ "0B01" answers "0000" ∷ "05010000" answers "070A" ∷ [])
     ∷ []
 
--- Every line of every row is answered as the table says.
+-- the same as one session, with room for just its six lines
+unfoldable pub sessionRight : Bool
+sessionRight =
+    let left = session fresh (codes ("010102\n0301000001AA" ⁀ K ⁀ "\n05010100\n09\n0B01\n05010000\n")) (zeros (6 * answerMost)) in
+    same (take (left .bytes) (left .out)) (codes "0000\n0000\n070A\n000012000000\n0000\n070A\n") && eqb (left .lines) 6
+
+-- Every line of every row is answered as the table says, and the session too.
 abbrev pub BenchRight : Type 0
-BenchRight = allRight table ≡ true
+BenchRight = (allRight table ≡ true) × (sessionRight ≡ true)

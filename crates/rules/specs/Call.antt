@@ -1,18 +1,17 @@
 -- One call for one line: 07 0F, 07 0D, 07 0E, then the line. The first three
 -- write nothing; any other answer writes its line, and the output past it stays.
 -- Assumes nothing.
-use mathlib.Core.Bool.{not}
 use mathlib.Core.List.{List, [], _∷_, _++_}
 use Prim.Native.Nat.{ℕ}
 use lib.ListN.{length, drop}
-use lib.Dec.{eqb, ltb}
+use lib.Dec.{ltb}
 use Rattle.rules.specs.declared.Refusal.{Refusal}
 use Rattle.rules.specs.declared.Answer.{Answer}
 use Rattle.rules.specs.declared.Answer.the-variants.{Refused}
-use Rattle.rules.specs.Numbers.{answerMost, storeSize}
+use Rattle.rules.specs.Numbers.{answerMost}
 use Rattle.rules.specs.Checks.{Check, _when_, judged}
 use Rattle.rules.specs.Answers.{answerLine, 07·0D, 07·0E, 07·0F}
-use Rattle.rules.specs.State.{State}
+use Rattle.rules.specs.State.{State, wrongStore}
 use Rattle.rules.specs.Sound.{unsound}
 use Rattle.rules.specs.Order.{step}
 
@@ -23,7 +22,7 @@ roomFor line = answerMost
 abbrev pub callChecks : State → ℕ → List ℕ → List (Check Refusal)
 callChecks s room out =
     07·0F when ltb (length out) room
-    ∷ 07·0D when not (eqb (length (s .marks)) storeSize)
+    ∷ 07·0D when wrongStore (s .marks)
     ∷ 07·0E when unsound s
     ∷ []
 

@@ -65,7 +65,8 @@ holds ns tag (e ∷ older) =
 
 -- ------------------------------------------------------------------------
 -- What a block was last written under, since its namespace was last managed:
--- the key that the slot of the latest accepted write held then
+-- the key that the slot of the latest accepted write held then. (A release
+-- zeroes the marks, but nobody reads under a key before the next manage.)
 
 abbrev pub covers : Command → ℕ → Bool
 covers c block = leb (c .first) block && leb block (c .first + c .more)

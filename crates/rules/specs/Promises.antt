@@ -18,7 +18,7 @@ use Rattle.rules.specs.State.{State, Sized, count, managed}
 use Rattle.rules.specs.Slots.{slot, nothing, holding, held}
 use Rattle.rules.specs.Marks.{identityOf}
 use Rattle.rules.specs.Sound.{unsound}
-use Rattle.rules.specs.Locks.{partition}
+use Rattle.rules.specs.Locks.{partition, bothLocked}
 use Rattle.rules.specs.declared.Command.{Command}
 use Rattle.rules.specs.Frames.{Frame, manage, load, io, reset}
 use Rattle.rules.specs.Order.{step, lineRule, frameOf, readingChecks, isReading, commandChecks, keyChecks}
@@ -131,3 +131,13 @@ abbrev pub HeldUntilPowerCycle : Type 0
 HeldUntilPowerCycle =
     (s : State) (line : List ℕ) (p : ℕ) → partition p (s .drive .locks) ≡ WriteLockedUntilPowerCycle
     → (partition p (step s line .state .drive .locks) ≡ WriteLockedUntilPowerCycle) ⊎ (frameOf line ≡ reset 1)
+
+-- A controller level reset changes nothing: no key, no lock.
+abbrev pub ControllerResetKeeps : Type 0
+ControllerResetKeeps = (s : State) (line : List ℕ) → Reads line (reset 0) → step s line ≡ record { answer = Done; state = s }
+
+-- A power cycle keeps management and marks, and puts both partitions in Write Locked. (That it empties all slots: SlotAsTold.)
+abbrev pub PowerCycleLocks : Type 0
+PowerCycleLocks =
+    (s : State) (line : List ℕ) → Reads line (reset 1)
+    → (step s line .state .drive ≡ record { counts = s .drive .counts; locks = bothLocked }) × (step s line .state .marks ≡ s .marks)

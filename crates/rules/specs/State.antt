@@ -27,6 +27,9 @@ pub record Sized (s : State) : Type 0 where
   pub cache : length (s .keys) ≡ cacheSize
   pub store : length (s .marks) ≡ storeSize
 
+abbrev pub wrongStore : List ℕ → Bool
+wrongStore marks = not (eqb (length marks) storeSize)
+
 pub record Outcome : Type 0 where
   pub answer : Answer
   pub state : State

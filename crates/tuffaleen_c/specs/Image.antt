@@ -10,10 +10,10 @@ use Rattle.cells.specs.Cells.{zeros}
 use Rattle.rules.specs.declared.Lock.{Lock}
 use Rattle.rules.specs.declared.Lock.the-variants.{WriteUnlocked, WriteLocked, WriteLockedUntilPowerCycle}
 use Rattle.rules.specs.declared.Drive.{Drive}
-use Rattle.rules.specs.Numbers.{namespaces, tagsMost, cacheSize, storeSize}
+use Rattle.rules.specs.Numbers.{namespaces, tagsMost, cacheSize}
 use Rattle.rules.specs.Checks.{_when_, judged}
 use Rattle.rules.specs.Answers.{number, refusalNumber, 07·0D, 07·0E}
-use Rattle.rules.specs.State.{State}
+use Rattle.rules.specs.State.{State, wrongStore}
 use Rattle.rules.specs.Locks.{lockValue, bothLocked}
 use Rattle.rules.specs.Start.{start}
 use Rattle.rules.specs.Call.{call}
@@ -32,7 +32,7 @@ headSize = namespaces + partitions
 abbrev pub imageSize : ℕ
 imageSize = headSize + cacheSize
 
--- a lock is kept as its value in Dword 11
+-- a lock is kept as its value in Dword 11; 0 is none (noLock)
 abbrev pub lockOf : ℕ → Lock
 lockOf zero = WriteLocked
 lockOf (suc zero) = WriteUnlocked
@@ -84,9 +84,6 @@ saved image s = cond (noImage image) image (imageOf s)
 
 -- ------------------------------------------------------------------------
 -- All that a call from C leaves
-
-abbrev pub wrongStore : List ℕ → Bool
-wrongStore marks = not (eqb (length marks) storeSize)
 
 pub record CStarted : Type 0 where
   pub number : ℕ

@@ -7,8 +7,10 @@ use mathlib.Core.List.{List}
 use Prim.Native.Nat.{ℕ}
 use Rattle.rules.specs.declared.Refusal.{Refusal}
 use Rattle.rules.specs.Answers.{refusalNumber}
+use Rattle.rules.specs.State.{State, Sized, wrongStore}
 use Rattle.rules.specs.Sound.{unsound}
-use Rattle.tuffaleen_c.specs.Image.{noImage, stateIn, imageOf, cCall, cSession}
+use Rattle.rules.specs.Start.{freshWith}
+use Rattle.tuffaleen_c.specs.Image.{wrongLength, noImage, stateIn, imageOf, cStart, cCall, cSession}
 
 -- Another length, or a lock byte outside the three states, is an unsound state.
 abbrev pub NoImageUnsound : Type 0
@@ -17,6 +19,19 @@ NoImageUnsound = (image marks : List ℕ) → noImage image ≡ true → unsound
 -- Nothing is lost between an image and its state.
 abbrev pub SameImage : Type 0
 SameImage = (image marks : List ℕ) → noImage image ≡ false → imageOf (stateIn image marks) ≡ image
+
+-- And nothing is lost between a state and its image.
+abbrev pub SameState : Type 0
+SameState = (s : State) → Sized s → (noImage (imageOf s) ≡ false) × (stateIn (imageOf s) (s .marks) ≡ s)
+
+-- A start on an image of another length changes nothing; a start with a wrong store leaves the fresh image and the store as it was.
+abbrev pub StartKeeps : Type 0
+StartKeeps = (image marks : List ℕ) → wrongLength image ≡ true → (cStart image marks .image ≡ image) × (cStart image marks .marks ≡ marks)
+
+abbrev pub StartFresh : Type 0
+StartFresh =
+    (image marks : List ℕ) → wrongLength image ≡ false → wrongStore marks ≡ true
+    → (cStart image marks .image ≡ imageOf (freshWith marks)) × (cStart image marks .marks ≡ marks)
 
 -- Every refusal leaves the image and the marks as they were.
 abbrev pub LineRefusedKeepsImage : Type 0
@@ -28,3 +43,7 @@ abbrev pub SessionRefusedKeepsImage : Type 0
 SessionRefusedKeepsImage =
     (image marks text out : List ℕ) (r : Refusal) → cSession image marks text out .number ≡ refusalNumber r
     → (cSession image marks text out .image ≡ image) × (cSession image marks text out .marks ≡ marks)
+
+-- An image that is none writes nothing, whatever its refusal.
+abbrev pub NoImageWritesNothing : Type 0
+NoImageWritesNothing = (image marks line out : List ℕ) → noImage image ≡ true → (cCall image marks line out .bytes ≡ 0) × (cCall image marks line out .out ≡ out)
