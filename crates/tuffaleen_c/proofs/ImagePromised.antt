@@ -26,11 +26,11 @@ use Rattle.rules.specs.Sound.{someAbove, unsound}
 use Rattle.rules.specs.Locks.{lockValue}
 use Rattle.rules.specs.Start.{start}
 use Rattle.rules.specs.Call.{callChecks, roomFor, Called, call}
-use Rattle.rules.specs.Sessions.{Session, session}
+use Rattle.rules.specs.Sessions.{linesOf, roomForAll, Session, session}
 use Rattle.rules.proofs.ChecksLaws.{judged-cases}
 use Rattle.rules.proofs.Promised.{call-refused-keeps, session-refused-keeps}
 use Rattle.tuffaleen_c.specs.Image.{partitions, headSize, imageSize, lockOf, noLock, lockByte0, lockByte1, noImage, noDrive, driveIn, keysIn, stateIn, imageOf, saved, cStart, cCall, cSession}
-use Rattle.tuffaleen_c.specs.ImagePromises.{NoImageUnsound, SameImage, SameState, StartKeeps, StartFresh, NoImageWritesNothing, LineRefusedKeepsImage, SessionRefusedKeepsImage}
+use Rattle.tuffaleen_c.specs.ImagePromises.{NoImageUnsound, SameImage, SameState, StartKeeps, StartFresh, NoImageWritesNothing, LineRefusedKeepsImage, SessionRefusedKeepsImage, NoImageNoSession}
 use Rattle.tuffaleen_c.proofs.ImageLaws.{is-image, length-image}
 
 -- ------------------------------------------------------------------------
@@ -169,4 +169,10 @@ pub no-image-writes-nothing : NoImageWritesNothing
 unfolding cCall call
 no-image-writes-nothing image marks line out e =
     refuses (callChecks (stateIn image marks) (roomFor line) out) _ _ (λ (c : Called). (c .bytes ≡ 0) × (c .out ≡ out)) (λ r. (refl, refl))
+    (λ p. true≢false (sym (no-image-unsound image marks e) ∙ p .1 .1 .0))
+
+pub no-image-no-session : NoImageNoSession
+unfolding cSession session
+no-image-no-session image marks text out e =
+    refuses (callChecks (stateIn image marks) (roomForAll (linesOf text)) out) _ _ (λ (c : Session). (c .lines ≡ 0) × ((c .bytes ≡ 0) × (c .out ≡ out))) (λ r. (refl, (refl, refl)))
     (λ p. true≢false (sym (no-image-unsound image marks e) ∙ p .1 .1 .0))

@@ -44,6 +44,11 @@ SessionRefusedKeepsImage =
     (image marks text out : List ℕ) (r : Refusal) → cSession image marks text out .number ≡ refusalNumber r
     → (cSession image marks text out .image ≡ image) × (cSession image marks text out .marks ≡ marks)
 
--- An image that is none writes nothing, whatever its refusal.
+-- With an image that is none nothing is written, whatever the refusal, and a session's counts are 0.
 abbrev pub NoImageWritesNothing : Type 0
 NoImageWritesNothing = (image marks line out : List ℕ) → noImage image ≡ true → (cCall image marks line out .bytes ≡ 0) × (cCall image marks line out .out ≡ out)
+
+abbrev pub NoImageNoSession : Type 0
+NoImageNoSession =
+    (image marks text out : List ℕ) → noImage image ≡ true
+    → (cSession image marks text out .lines ≡ 0) × ((cSession image marks text out .bytes ≡ 0) × (cSession image marks text out .out ≡ out))

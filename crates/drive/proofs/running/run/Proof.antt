@@ -25,31 +25,13 @@ next-line-requires : tie.Need-next-line-requires Inv-loop μ-loop
 next-line-requires c κs = omega arith
 
 sub-on-line : tie.Need-sub-on-line Inv-loop μ-loop
-sub-on-line c =
-    let s = c .before .before .before .before .before .before .before .before .args in
-    let i = c .before .before .before .before .loop in
-    let m = i .inv .0 in
-    let fits = c .before .before .before .before .before .before .before .before .pre .1 in
-    let line = c .before .before .next-line .ensures in
-    line .starts
+sub-on-line c = omega (arith, c .before .before .next-line .ensures .starts)
 
 part-on-line-start : tie.Need-part-on-line-start Inv-loop μ-loop
-part-on-line-start c =
-    let s = c .before .before .before .before .before .before .before .before .args in
-    let i = c .before .before .before .before .loop in
-    let m = i .inv .0 in
-    let fits = c .before .before .before .before .before .before .before .before .pre .1 in
-    let line = c .before .before .next-line .ensures in
-    line .starts
+part-on-line-start c = omega (arith, c .before .before .next-line .ensures .starts)
 
 part-on-line-end : tie.Need-part-on-line-end Inv-loop μ-loop
-part-on-line-end c =
-    let s = c .before .before .before .before .before .before .before .before .args in
-    let i = c .before .before .before .before .loop in
-    let m = i .inv .0 in
-    let fits = c .before .before .before .before .before .before .before .before .pre .1 in
-    let line = c .before .before .next-line .ensures in
-    line .ends
+part-on-line-end c = c .before .before .next-line .ensures .ends
 
 on-line-requires : tie.Need-on-line-requires Inv-loop μ-loop
 on-line-requires c κs = c .before .before .before .before .before .loop .inv .1
