@@ -12,11 +12,10 @@ use native.Mathlib.Omega.{arith}
 use lib.ListN.{length, take}
 use lib.Seq.{take-all, take-append-le, take-append-add, length-take-le}
 use lib.Dec.{ltb}
-use borrow.Author.Tests.{ltb-false, not-false, eqb-true, eq-eqb, le-leb}
+use borrow.Author.Tests.{ltb-false, eqb-true, eq-eqb, le-leb}
 use Rattle.cells.specs.Cells.{part, zeros}
-use Rattle.cells.specs.Tests.{allZero}
-use Rattle.cells.proofs.CellsLaws.{length-part, length-cell, part-zeros, part-part, part-cell}
-use Rattle.cells.proofs.TestsLaws.{allZero-eq, true-or-false}
+use Rattle.cells.proofs.CellsLaws.{length-cell, part-zeros, part-part, part-cell}
+use Rattle.cells.proofs.TestsLaws.{true-or-false}
 use Rattle.rules.specs.declared.Command.{Command}
 use Rattle.rules.specs.declared.Drive.{Drive}
 use Rattle.rules.specs.declared.Refusal.{Refusal}
@@ -25,24 +24,25 @@ use Rattle.rules.specs.Numbers.{blocksEach, uidMost, slotWidth, slotPlaces, ide
 use Rattle.rules.specs.Checks.{Check, _when_, Verdict, passed, refused, firstRefusal, settle, judged, onlyIf, AllPass}
 use Rattle.rules.specs.Answers.{00·01, 00·0B, 00·28, 00·80}
 use Rattle.rules.specs.State.{State, Outcome, refuse, obey, noNamespace, managed, tagAbove}
-use Rattle.rules.specs.Slots.{placeOf, slot, padded, uidLength, empty, uidOf, held}
+use Rattle.rules.specs.Slots.{placeOf, slot, padded, empty, uidOf, held}
 use Rattle.rules.specs.Marks.{blockOf, keptIdentity, identityOf}
-use Rattle.rules.specs.Sound.{afterUid, slotUnsound}
+use Rattle.rules.specs.Sound.{slotUnsound}
 use Rattle.rules.specs.Effects.{markCovered, onlyWhen}
 use Rattle.rules.specs.Order.{command, isWrite, isReading, commandChecks, keyChecks, markCheck, wrongKey}
 use Rattle.rules.specs.Promises.{IsNamespace, IsSlot}
 use Rattle.rules.proofs.ChecksLaws.{judged-append, judged-cases}
 use Rattle.rules.proofs.StateLaws.{is-namespace}
 use Rattle.rules.proofs.SlotsLaws.{place-small}
-use Rattle.rules.proofs.SoundLaws.{long-is, rest-is, sound-slot}
+use Rattle.rules.proofs.SoundLaws.{sound-slot}
 use Rattle.rules.proofs.EffectsLaws.{named-slot, slot-fits, length-held-identity}
+use Rattle.slots.specs.Cache.{headSize, headBytes}
+use Rattle.slots.proofs.HeadLaws.{sound-head}
 use Rattle.marks.specs.Store.{inStore, someDiffers, marked}
 use Rattle.drive.specs.declared.Access.{Access}
 use Rattle.drive.specs.declared.Access.the-variants.{Write, Reads, Neither}
 use Rattle.drive.specs.declared.Reach.{Reach}
 use Rattle.drive.specs.declared.Reach.the-variants.{Place, Unmanaged, Refused}
 use Rattle.drive.specs.Stepping.{state, Ready, accessOf, reached, Known}
-use Rattle.drive.proofs.FieldsLaws.{part-join, part-byte}
 
 -- ------------------------------------------------------------------------
 -- What an opcode opens
@@ -80,36 +80,12 @@ take-padded n m xs h =
     ∙ ap (λ z. z ++ zeros (n - length z)) (sym (take-all n xs (omega arith))))
 
 module _ (c : List ℕ) (whole : length c ≡ slotWidth) (sound : slotUnsound false c ≡ false) (full : empty c ≡ false) where
-  short : uidLength c ≤ uidMost
-  short = by-cases (decLt uidMost (uidLength c)) (λ l. absurd (true≢false (long-is c false full l ∙ sound))) (λ l. omega arith)
-
-  uid-whole : length (uidOf c) ≡ uidLength c
-  unfolding uidOf
-  uid-whole = length-part 1 (uidLength c) c (omega (arith, short))
-
-  pad-zero : afterUid c ≡ zeros (uidMost - uidLength c)
-  pad-zero =
-      allZero-eq (afterUid c) (uidMost - uidLength c)
-      (length-part (1 + uidLength c) (uidMost - uidLength c) c (omega (arith, short)))
-      (not-false (allZero (afterUid c)) (rest-is c full short ∙ sound))
-
-  front : part 0 (1 + uidMost) c ≡ uidLength c ∷ padded uidMost (uidOf c)
-  unfolding padded uidOf
-  front =
-      let n : ℕ = uidLength c in
-      let e : uidMost ≡ n + (uidMost - n) = omega (arith, short) in
-      part-join 0 1 uidMost c
-      ∙ ap (λ z. z ++ part 1 uidMost c) (part-byte 0 c (omega arith))
-      ∙ ap (λ z. n ∷ z) (ap (λ k. part 1 k c) e ∙ part-join 1 n (uidMost - n) c ∙ ap (λ z. part 1 n c ++ z) pad-zero)
-      ∙ ap (λ k. n ∷ (uidOf c ++ zeros (uidMost - k))) (sym uid-whole)
-
   kept-in : keptIdentity (uidOf c) ≡ part 0 markWidth c
-  unfolding keptIdentity part
+  unfolding keptIdentity part headBytes
   kept-in =
-      ap (λ k. k ∷ padded identityMost (take identityMost (uidOf c))) uid-whole
-      ∙ ap (λ z. uidLength c ∷ z) (sym (take-padded identityMost uidMost (uidOf c) (omega arith)))
-      ∙ ap (part 0 markWidth) (sym front)
-      ∙ part-part 0 (1 + uidMost) 0 markWidth c (omega arith) (omega arith)
+      ap (λ z. length (uidOf c) ∷ z) (sym (take-padded identityMost uidMost (uidOf c) (omega arith)))
+      ∙ ap (part 0 markWidth) (sym (sound-head c whole sound full))
+      ∙ part-part 0 headSize 0 markWidth c (omega arith) (omega arith)
 
   held-identity : identityOf (held c) ≡ part 0 markWidth c
   unfolding held

@@ -110,7 +110,7 @@ pub(crate) fn clear_all(drive: Drive, keys: &mut Cache, ns: Namespace) -> Answer
 
 // 07 0C. In a sound state only allocated tags have a loaded slot, so that no other is looked at.
 fn other_key(drive: Drive, keys: &Cache, uid: &[u8], key: &[u8]) -> bool
-    requires { ⌜ unsound (state drive (now keys) []) ≡ false ⌝ }
+    requires { ⌜ FitKey (now uid) (now key) × (unsound (state drive (now keys) []) ≡ false) ⌝ }
     ensures { λ r. ⌜ r ≡ otherKey (now (keys .entry)) (now (uid .entry)) (now (key .entry)) ⌝ }
 {
     let counts = drive.counts;

@@ -50,7 +50,7 @@ pub tight-slots-holds-uid : Tight-slots-holds-uid
 tight-slots-holds-uid = (λ κs args. tt, λ κs args r r′ e e′ p q. one p q)
 
 pub tight-slots-other-key : Tight-slots-other-key
-tight-slots-other-key = (λ κs args. tt, λ κs args r r′ e e′ p q. one p q)
+tight-slots-other-key = (λ κs args. tt, λ κs args r r′ e e′ p q. one (p .0) (q .0))
 
 pub tight-slots-unsound : Tight-slots-unsound
 tight-slots-unsound = (λ κs args. tt, λ κs args r r′ e e′ p q. one (p .0) (q .0))

@@ -1,3 +1,4 @@
 pub mod AllocatedLaws
 pub mod CacheLaws
+pub mod HeadLaws
 pub mod ScanLaws

@@ -1,17 +1,17 @@
 -- The key cache after a store or a clear, where what names no slot, or is no
 -- key, changes nothing; and the search for another key among allocated tags.
 -- Assumes nothing.
-use mathlib.Core.Bool.{Bool, _&&_, cond}
-use mathlib.Core.List.{List}
-use Prim.Native.Nat.{ℕ, _/_, _%_}
+use mathlib.Core.Bool.{Bool, not, _&&_, cond}
+use mathlib.Core.List.{List, _∷_}
+use Prim.Native.Nat.{ℕ, _+_, _/_, _%_}
 use lib.ListN.{length, getD}
 use lib.Dec.{eqb, leb, ltb}
-use Rattle.cells.specs.Cells.{put, fill}
-use Rattle.cells.specs.Tests.{someCell}
+use Rattle.cells.specs.Cells.{part, put, fill}
+use Rattle.cells.specs.Tests.{same, someCell}
 use Rattle.rules.specs.declared.Namespace.{Namespace}
 use Rattle.rules.specs.Numbers.{tagsMost, uidMost, keySize, slotWidth, slotPlaces}
 use Rattle.rules.specs.State.{keyTag, noNamespace}
-use Rattle.rules.specs.Slots.{placeOf, slotBytes, emptied, otherKeyIn}
+use Rattle.rules.specs.Slots.{placeOf, padded, slotBytes, emptied, keyOf}
 
 abbrev pub fitsSlot : ℕ → List ℕ → List ℕ → Bool
 fitsSlot place uid key = ltb place slotPlaces && leb (length uid) uidMost && eqb (length key) keySize
@@ -32,6 +32,21 @@ clearedAll keys = fill slotWidth 0 slotPlaces emptied keys
 abbrev pub allocated : List ℕ → ℕ → Bool
 allocated counts place = ltb (place % tagsMost) (getD counts (place / tagsMost) 0)
 
--- 07 0C at an allocated tag: in a sound state it is `otherKey`, since every other slot is empty there
+-- the head of a slot: the bytes before its key. That of a KeyUID above 16 bytes is longer, so that no slot has it.
+abbrev pub headSize : ℕ
+headSize = 1 + uidMost
+
+abbrev pub headOf : List ℕ → List ℕ
+headOf c = part 0 headSize c
+
+unfoldable pub headBytes : List ℕ → List ℕ
+headBytes uid = length uid ∷ padded uidMost uid
+
+-- this head, and another key
+unfoldable pub otherKeyBehind : List ℕ → List ℕ → List ℕ → Bool
+otherKeyBehind head key c = same (headOf c) head && not (same (keyOf c) key)
+
+-- 07 0C at an allocated tag, by heads. For a KeyUID of 1 byte or more in a sound state it is `otherKey`: a stored KeyUID is padded with
+-- zeros, and every slot at another tag is empty.
 unfoldable pub otherKeyAllocated : List ℕ → List ℕ → List ℕ → List ℕ → Bool
-otherKeyAllocated counts keys uid key = someCell slotWidth 0 slotPlaces (λ place c. allocated counts place && otherKeyIn uid key c) keys
+otherKeyAllocated counts keys uid key = someCell slotWidth 0 slotPlaces (λ place c. allocated counts place && otherKeyBehind (headBytes uid) key c) keys

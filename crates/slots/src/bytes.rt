@@ -3,15 +3,18 @@ ghost use mathlib.Core.Path.{_≡_};
 ghost use mathlib.Core.Bool.{_&&_};
 ghost use Prim.Native.Nat.{_+_, _*_, _≤_, _<_};
 ghost use lib.ListN.{length};
-ghost use Rattle.cells.specs.Cells.{cell, put, fill};
+ghost use Rattle.cells.specs.Cells.{cell, fill};
 ghost use Rattle.cells.specs.Tests.{same};
 ghost use Rattle.rules.specs.Numbers.{uidMost, keySize, slotWidth, slotPlaces, cacheSize};
 ghost use Rattle.rules.specs.Slots.{loaded, slotBytes, emptied, uidOf, keyOf};
-ghost use Rattle.slots.specs.Cache.{stored, cleared};
+ghost use Rattle.slots.specs.Cache.{stored, cleared, headSize, headBytes};
 use rules::KEY;
 use rules::SLOT;
 use rules::SLOTS;
 use rules::UID;
+
+// A slot's bytes before its key, its head: the KeyUID's length and the padded KeyUID.
+pub(crate) const HEAD: usize = 1 + UID;
 
 pub(crate) fn loaded_at(keys: &[u8], place: usize) -> bool
     requires { ⌜ length (now keys) ≡ cacheSize ⌝ }
@@ -59,9 +62,21 @@ pub(crate) fn same_key(keys: &[u8], place: usize, key: &[u8]) -> bool
     requires { ⌜ (length (now keys) ≡ cacheSize) × (place < slotPlaces) ⌝ }
     ensures { λ r. ⌜ r ≡ same (keyOf (cell slotWidth place (now (keys .entry)))) (now (key .entry)) ⌝ }
 {
-    let b = place * SLOT + (1 + UID);
+    let b = place * SLOT + HEAD;
     let e = b + KEY;
     cells::equal(&keys[b..e], key)
+}
+
+// A slot's head from a KeyUID.
+pub(crate) fn set_head(head: &mut [u8], uid: &[u8])
+    requires { ⌜ (length (now head) ≡ headSize) × (length (now uid) ≤ uidMost) ⌝ }
+    ensures { λ _. ⌜ now (head .exit) ≡ headBytes (now (uid .entry)) ⌝ }
+{
+    let n = uid.len();
+    let m = 1 + n;
+    head[0] = n as u8;
+    cells::copy(&mut head[1..m], uid);
+    cells::fill_zero(&mut head[m..HEAD]);
 }
 
 // A slot's bytes from a KeyUID and a key.
@@ -69,13 +84,8 @@ fn set_slot(slot: &mut [u8], uid: &[u8], key: &[u8])
     requires { ⌜ (length (now slot) ≡ slotWidth) × (length (now uid) ≤ uidMost) × (length (now key) ≡ keySize) ⌝ }
     ensures { λ _. ⌜ now (slot .exit) ≡ slotBytes (now (uid .entry)) (now (key .entry)) ⌝ }
 {
-    let n = uid.len();
-    let m = 1 + n;
-    let k = 1 + UID;
-    slot[0] = n as u8;
-    cells::copy(&mut slot[1..m], uid);
-    cells::fill_zero(&mut slot[m..k]);
-    cells::copy(&mut slot[k..SLOT], key);
+    set_head(&mut slot[0..HEAD], uid);
+    cells::copy(&mut slot[HEAD..SLOT], key);
 }
 
 pub(crate) fn store_at(keys: &mut [u8], place: usize, uid: &[u8], key: &[u8])

@@ -34,10 +34,11 @@ pub fn holds_uid(keys: &Cache, place: usize, uid: &[u8]) -> bool
     bytes::holds_at(keys, place, uid)
 }
 
-// 07 0C: whether a loaded slot has this KeyUID and another key. It looks at allocated tags alone, a count above TAGS as TAGS:
-// where the state is sound no other slot is loaded (proofs/AllocatedLaws.antt).
+// 07 0C: whether a slot has this KeyUID and another key. It looks at allocated tags alone, a count above TAGS as TAGS, and at the length
+// byte and the padded KeyUID at once: for a KeyUID of 1 byte or more in a sound state that finds every loaded slot with this KeyUID and
+// no other (proofs/AllocatedLaws.antt). Its contract also tells the length that the type fixes.
 pub fn other_key(counts: [u8; NAMESPACES], keys: &Cache, uid: &[u8], key: &[u8]) -> bool
-    ensures { λ r. ⌜ r ≡ otherKeyAllocated counts (now (keys .entry)) (now (uid .entry)) (now (key .entry)) ⌝ }
+    ensures { λ r. ⌜ (r ≡ otherKeyAllocated counts (now (keys .entry)) (now (uid .entry)) (now (key .entry))) × (length (now (keys .entry)) ≡ cacheSize) ⌝ }
 {
     scan::other_key_in(counts, keys, uid, key)
 }

@@ -6,14 +6,14 @@ ghost use Prim.Native.Nat.{_+_, _*_, _%_, _≤_, _<_};
 ghost use lib.Dec.{leb, ltb};
 ghost use lib.ListN.{length};
 ghost use Rattle.cells.specs.Cells.{cell};
-ghost use Rattle.cells.specs.Tests.{someCell};
+ghost use Rattle.cells.specs.Tests.{same, someCell};
 ghost use Rattle.rules.specs.Numbers.{namespaces, poolSlots, tagsMost, slotWidth, slotPlaces, cacheSize};
 ghost use Rattle.rules.specs.State.{total};
-ghost use Rattle.rules.specs.Slots.{otherKeyIn};
 ghost use Rattle.rules.specs.Sound.{someAbove, slotUnsound, unsound};
-ghost use Rattle.slots.specs.Cache.{otherKeyAllocated};
+ghost use Rattle.slots.specs.Cache.{allocated, headSize, headOf, otherKeyBehind, otherKeyAllocated};
+use crate::bytes::HEAD;
 use crate::bytes::same_key;
-use crate::bytes::same_uid;
+use crate::bytes::set_head;
 use rules::Drive;
 use rules::NAMESPACES;
 use rules::POOL;
@@ -22,28 +22,39 @@ use rules::SLOTS;
 use rules::TAGS;
 use rules::UID;
 
-fn other_key_at(keys: &[u8], place: usize, uid: &[u8], key: &[u8]) -> bool
-    requires { ⌜ (length (now keys) ≡ cacheSize) × (place < slotPlaces) ⌝ }
-    ensures { λ r. ⌜ r ≡ otherKeyIn (now (uid .entry)) (now (key .entry)) (cell slotWidth place (now (keys .entry))) ⌝ }
+// Whether the slot has this head. As many turns for every slot, and no way out of the loop: the compiler compares the head at once.
+fn same_head(keys: &[u8], place: usize, head: &[u8]) -> bool
+    requires { ⌜ (length (now keys) ≡ cacheSize) × (place < slotPlaces) × (length (now head) ≡ headSize) ⌝ }
+    ensures { λ r. ⌜ r ≡ same (headOf (cell slotWidth place (now (keys .entry)))) (now (head .entry)) ⌝ }
 {
     let a = place * SLOT;
-    if keys[a] == 0 {
-        return false;
+    let mut same = true;
+    let mut i = 0;
+    while i < HEAD {
+        same = same & (keys[a + i] == head[i]);
+        i += 1;
     }
-    if same_uid(keys, place, uid) {
+    same
+}
+
+fn other_key_at(keys: &[u8], place: usize, head: &[u8], key: &[u8]) -> bool
+    requires { ⌜ (length (now keys) ≡ cacheSize) × (place < slotPlaces) × (length (now head) ≡ headSize) ⌝ }
+    ensures { λ r. ⌜ r ≡ otherKeyBehind (now (head .entry)) (now (key .entry)) (cell slotWidth place (now (keys .entry))) ⌝ }
+{
+    if same_head(keys, place, head) {
         return !same_key(keys, place, key);
     }
     false
 }
 
-// Whether one of the n slots from first on has this KeyUID and another key.
-fn other_key_run(keys: &[u8], first: usize, n: usize, uid: &[u8], key: &[u8]) -> bool
-    requires { ⌜ (length (now keys) ≡ cacheSize) × (first + n ≤ slotPlaces) ⌝ }
-    ensures { λ r. ⌜ r ≡ someCell slotWidth first n (λ i c. otherKeyIn (now (uid .entry)) (now (key .entry)) c) (now (keys .entry)) ⌝ }
+// Whether one of the n slots from first on has this head and another key.
+fn other_key_run(keys: &[u8], first: usize, n: usize, head: &[u8], key: &[u8]) -> bool
+    requires { ⌜ (length (now keys) ≡ cacheSize) × (first + n ≤ slotPlaces) × (length (now head) ≡ headSize) ⌝ }
+    ensures { λ r. ⌜ r ≡ someCell slotWidth first n (λ i c. otherKeyBehind (now (head .entry)) (now (key .entry)) c) (now (keys .entry)) ⌝ }
 {
     let mut i = 0;
     while i < n {
-        if other_key_at(keys, first + i, uid, key) {
+        if other_key_at(keys, first + i, head, key) {
             return true;
         }
         i += 1;
@@ -52,30 +63,44 @@ fn other_key_run(keys: &[u8], first: usize, n: usize, uid: &[u8], key: &[u8]) ->
 }
 
 // The same of the slots of a namespace whose tag is below this count.
-fn other_key_below(keys: &[u8], ns: usize, count: u8, uid: &[u8], key: &[u8]) -> bool
-    requires { ⌜ (length (now keys) ≡ cacheSize) × (ns < namespaces) ⌝ }
-    ensures { λ r. ⌜ r ≡ someCell slotWidth (ns * tagsMost) tagsMost (λ i c. ltb (i % tagsMost) count && otherKeyIn (now (uid .entry)) (now (key .entry)) c) (now (keys .entry)) ⌝ }
+fn other_key_below(keys: &[u8], ns: usize, count: u8, head: &[u8], key: &[u8]) -> bool
+    requires { ⌜ (length (now keys) ≡ cacheSize) × (ns < namespaces) × (length (now head) ≡ headSize) ⌝ }
+    ensures { λ r. ⌜ r ≡ someCell slotWidth (ns * tagsMost) tagsMost (λ i c. ltb (i % tagsMost) count && otherKeyBehind (now (head .entry)) (now (key .entry)) c) (now (keys .entry)) ⌝ }
 {
     let first = ns * TAGS;
     let n = count as usize;
     if n > TAGS {
-        return other_key_run(keys, first, TAGS, uid, key);
+        return other_key_run(keys, first, TAGS, head, key);
     }
-    other_key_run(keys, first, n, uid, key)
+    other_key_run(keys, first, n, head, key)
 }
 
-pub(crate) fn other_key_in(counts: [u8; NAMESPACES], keys: &[u8], uid: &[u8], key: &[u8]) -> bool
-    requires { ⌜ length (now keys) ≡ cacheSize ⌝ }
-    ensures { λ r. ⌜ r ≡ otherKeyAllocated counts (now (keys .entry)) (now (uid .entry)) (now (key .entry)) ⌝ }
+// The same of the slots of every namespace.
+fn other_key_behind(counts: [u8; NAMESPACES], keys: &[u8], head: &[u8], key: &[u8]) -> bool
+    requires { ⌜ (length (now keys) ≡ cacheSize) × (length (now head) ≡ headSize) ⌝ }
+    ensures { λ r. ⌜ r ≡ someCell slotWidth 0 slotPlaces (λ i c. allocated counts i && otherKeyBehind (now (head .entry)) (now (key .entry)) c) (now (keys .entry)) ⌝ }
 {
     let mut i = 0;
     while i < NAMESPACES {
-        if other_key_below(keys, i, counts[i], uid, key) {
+        if other_key_below(keys, i, counts[i], head, key) {
             return true;
         }
         i += 1;
     }
     false
+}
+
+// It makes the head once. A KeyUID above UID bytes is in no slot.
+pub(crate) fn other_key_in(counts: [u8; NAMESPACES], keys: &[u8], uid: &[u8], key: &[u8]) -> bool
+    requires { ⌜ length (now keys) ≡ cacheSize ⌝ }
+    ensures { λ r. ⌜ (r ≡ otherKeyAllocated counts (now (keys .entry)) (now (uid .entry)) (now (key .entry))) × (length (now (keys .entry)) ≡ cacheSize) ⌝ }
+{
+    if uid.len() > UID {
+        return false;
+    }
+    let mut head = [0u8; HEAD];
+    set_head(&mut head, uid);
+    other_key_behind(counts, keys, &head, key)
 }
 
 // Whether a slot at an allocated tag is unsound.

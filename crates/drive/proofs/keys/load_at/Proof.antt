@@ -21,7 +21,7 @@ unfolding loadAt
 returns c = λ m. rw (c .refused .ensures, sym (c .before .before .loaded .ensures) ∙ c .before .if1 .taken)
 
 other-key-requires : tie.Need-other-key-requires
-other-key-requires c κs = c .before .before .before .before .before .before .pre .2
+other-key-requires c κs = (c .before .before .before .before .before .before .pre .1, c .before .before .before .before .before .before .pre .2)
 
 refused-requires-2 : tie.Need-refused-requires-2
 refused-requires-2 c κs = search needs

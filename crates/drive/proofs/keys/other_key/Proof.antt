@@ -14,7 +14,7 @@ other-key-requires c κs = search needs
 returns : tie.Need-returns
 returns c =
     let a = c .before .before .before .before in
-    c .other-key .ensures ∙ sound-other-key (state (a .args .drive) (a .args .keys .now) []) (a .pre) (a .args .uid .now) (a .args .key .now)
+    c .other-key .ensures .0 ∙ sound-other-key (state (a .args .drive) (a .args .keys .now) []) (a .pre .1) (c .other-key .ensures .1) (a .args .uid .now) (a .args .key .now) (a .pre .0 .some)
 
 pub other-key-spec : {M : Type 1} → statement M
 other-key-spec = tie.close (tie.spec other-key-requires returns)

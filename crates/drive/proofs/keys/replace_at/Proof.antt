@@ -35,7 +35,7 @@ unfolding replaceAt
 returns-2 c = λ m. rw (c .refused2 .ensures, not-true (empty (cell slotWidth (c .before .before .before .before .before .before .before .before .before .before .args .place) (c .before .before .before .before .before .before .before .before .before .before .args .keys .now))) (sym (c .before .before .before .before .before .loaded .ensures) ∙ not-false _ (c .before .before .before .before .if1 .left)), uid-only (empty (cell slotWidth (c .before .before .before .before .before .before .before .before .before .before .args .place) (c .before .before .before .before .before .before .before .before .before .before .args .keys .now))) (same (uidOf (cell slotWidth (c .before .before .before .before .before .before .before .before .before .before .args .place) (c .before .before .before .before .before .before .before .before .before .before .args .keys .now))) (c .before .before .before .before .before .before .before .before .before .before .args .old .now)) _ (c .before .before .holds-uid .ensures) (not-true (empty (cell slotWidth (c .before .before .before .before .before .before .before .before .before .before .args .place) (c .before .before .before .before .before .before .before .before .before .before .args .keys .now))) (sym (c .before .before .before .before .before .loaded .ensures) ∙ not-false _ (c .before .before .before .before .if1 .left))) ∙ not-true _ (c .before .if2 .taken))
 
 other-key-requires : tie.Need-other-key-requires
-other-key-requires c κs = c .before .before .before .before .before .before .before .before .before .before .pre .2
+other-key-requires c κs = (c .before .before .before .before .before .before .before .before .before .before .pre .1, c .before .before .before .before .before .before .before .before .before .before .pre .2)
 
 refused-requires-3 : tie.Need-refused-requires-3
 refused-requires-3 c κs = search needs

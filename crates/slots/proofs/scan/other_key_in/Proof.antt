@@ -1,90 +1,48 @@
--- `other_key_in` meets its contract: the namespaces that are left decide.
+-- `other_key_in` meets its contract: the search is for the head of a slot with this KeyUID.
 -- Assumes nothing.
 use borrow.Author.Needs.{needs}
-use native.Mathlib.Omega.{arith}
-use mathlib.Core.Path.{_≡_, refl, sym, ap, _∙_}
-use mathlib.Core.Bool.{Bool, _&&_, _||_}
+use mathlib.Core.Path.{ap, _∙_}
+use mathlib.Core.Bool.{Bool, _&&_}
 use mathlib.Core.List.{List}
-use Prim.Native.Nat.{ℕ, _+_, _-_, _*_, _%_, _≤_, _<_}
-use lib.ListN.{getD}
-use lib.Dec.{ltb}
+use Prim.Native.Nat.{ℕ}
 use Rattle.cells.specs.Tests.{someCell}
-use Rattle.rules.specs.Numbers.{namespaces, tagsMost, slotWidth}
-use Rattle.rules.specs.Slots.{otherKeyIn}
-use Rattle.slots.specs.Cache.{allocated, otherKeyAllocated}
-use Rattle.slots.proofs.ScanLaws.{rest, rest-next, rest-end}
+use Rattle.rules.specs.Numbers.{slotWidth, slotPlaces}
+use Rattle.slots.specs.Cache.{allocated, otherKeyBehind, otherKeyAllocated}
+use Rattle.slots.proofs.AllocatedLaws.{long-none}
 use Rattle.slots.proofs.scan.other_key_in.Statement.{statement}
 use Rattle.slots.proofs.scan.other_key_in.Tie as tie
 
-abbrev test : List ℕ → List ℕ → List ℕ → ℕ → List ℕ → Bool
-test counts uid key i c = allocated counts i && otherKeyIn uid key c
-
-abbrev below : ℕ → List ℕ → List ℕ → ℕ → List ℕ → Bool
-below count uid key i c = ltb (i % tagsMost) count && otherKeyIn uid key c
-
-next : (counts keys uid key : List ℕ) (ns : ℕ) → ns < namespaces
-    → rest (test counts uid key) keys ns ≡ someCell slotWidth (ns * tagsMost) tagsMost (below (getD counts ns 0) uid key) keys || rest (test counts uid key) keys (ns + 1)
-next counts keys uid key ns h =
-    rest-next (test counts uid key) keys (below (getD counts ns 0) uid key) ns h
-    (λ i e c. ap (λ n. ltb (i % tagsMost) (getD counts n 0) && otherKeyIn uid key c) e)
-
-abbrev Inv-loop : tie.InvT-loop
-Inv-loop keys uid key counts i₀ i = (i ≤ namespaces) × (rest (test counts uid key) keys i ≡ rest (test counts uid key) keys 0)
-
-abbrev μ-loop : tie.MeasureT-loop
-μ-loop keys uid key counts i₀ i = namespaces - i
-
-loop-holds : tie.Need-loop-holds Inv-loop μ-loop
-loop-holds c = (omega arith, refl)
-
-array-read-other-key-below : tie.Need-array-read-other-key-below Inv-loop μ-loop
-array-read-other-key-below c = omega arith
-
-other-key-below-requires : tie.Need-other-key-below-requires Inv-loop μ-loop
-other-key-below-requires c κs = (search needs, omega arith)
-
-returns : tie.Need-returns Inv-loop μ-loop
-unfolding otherKeyAllocated
+returns : tie.Need-returns
 returns c =
-    let s = c .before .before .before .before .before .before .before .args in
-    let l = c .before .before .before .loop in
-    let left = rest (test (s .t1) (s .uid .now) (s .key .now)) (s .keys .now) (l .i + 1) in
-    ap (λ b. b || left) (sym (c .if1 .taken) ∙ c .before .other-key-below .ensures)
-    ∙ sym (next (s .t1) (s .keys .now) (s .uid .now) (s .key .now) (l .i) (omega arith))
-    ∙ l .inv .1
+    let a = c .before .before .before .before in
+    (long-none (a .args .uid .now) (a .args .key .now) (c .if1 .taken) (a .args .counts) (a .args .keys .now), a .pre)
 
-add-i : tie.Need-add-i Inv-loop μ-loop
-add-i c = omega arith
+slice-aggregate-set-head : tie.Need-slice-aggregate-set-head
+slice-aggregate-set-head c = search needs
 
-loop-less : tie.Need-loop-less Inv-loop μ-loop
-loop-less c = omega arith
+set-head-requires : tie.Need-set-head-requires
+set-head-requires c κs = search needs
 
-loop-again : tie.Need-loop-again Inv-loop μ-loop
-loop-again c =
-    let s = c .before .before .before .before .before .before .before .args in
-    let l = c .before .before .before .loop in
-    let left = rest (test (s .t1) (s .uid .now) (s .key .now)) (s .keys .now) (l .i + 1) in
-    let miss = ap (λ b. b || left) (sym (c .if1 .left) ∙ c .before .other-key-below .ensures) in
-    (omega arith, miss ∙ sym (next (s .t1) (s .keys .now) (s .uid .now) (s .key .now) (l .i) (omega arith)) ∙ l .inv .1)
+slice-aggregate-other-key-behind : tie.Need-slice-aggregate-other-key-behind
+slice-aggregate-other-key-behind c = search needs
 
-returns-2 : tie.Need-returns-2 Inv-loop μ-loop
+other-key-behind-requires : tie.Need-other-key-behind-requires
+other-key-behind-requires c κs = search needs
+
+returns-2 : tie.Need-returns-2
 unfolding otherKeyAllocated
 returns-2 c =
-    let s = c .before .before .before .before .before .args in
-    let l = c .before .loop in
-    sym (rest-end (test (s .t1) (s .uid .now) (s .key .now)) (s .keys .now) (l .i) (omega arith)) ∙ l .inv .1
+    let a = c .before .before .before .before .before .before .before .before .before in
+    let test : List ℕ → Bool = (λ h. someCell slotWidth 0 slotPlaces (λ i d. allocated (a .args .counts) i && otherKeyBehind h (a .args .key .now) d) (a .args .keys .now)) in
+    (c .other-key-behind .ensures ∙ ap test (c .before .before .before .set-head .ensures), a .pre)
 
 pub other-key-in-spec : {M : Type 1} → statement M
 other-key-in-spec =
     tie.close
     (tie.spec
-    Inv-loop
-    μ-loop
-    loop-holds
-    array-read-other-key-below
-    other-key-below-requires
     returns
-    add-i
-    loop-less
-    loop-again
+    slice-aggregate-set-head
+    set-head-requires
+    slice-aggregate-other-key-behind
+    other-key-behind-requires
     returns-2)
