@@ -12,10 +12,10 @@ use native.Mathlib.Omega.{arith}
 use native.Mathlib.Numerals.{add-one}
 use lib.ListN.{length, take, drop, getD, set, replicate, length-append, length-drop, take-append-drop, length-replicate, getD-replicate, replicate-append-replicate, drop-of-length-le}
 use lib.Dec.{eqb}
-use borrow.Author.Tests.{eq-eqb}
-use mathlib.Core.Bool.{cond}
+use borrow.Author.Tests.{eq-eqb, le-leb, lt-leb}
+use mathlib.Core.Bool.{true, false, cond}
 use lib.Seq.{take-length, drop-length, length-take-le, take-at, drop-at, take-append-le, drop-append-le, drop-drop, take-take, ext-getD, getD-take, getD-drop, drop-cons, take-suc, set-at, append-snoc, take-nil, take-all}
-use Rattle.cells.specs.Cells.{part, write, zeros, copies, cell, put, fill}
+use Rattle.cells.specs.Cells.{part, write, within, zeros, copies, zeroedPart, cell, put, fill}
 
 -- ------------------------------------------------------------------------
 -- Parts
@@ -345,10 +345,24 @@ pub back-put : (w i : ℕ) (ys xs : List ℕ) → take (i * w) xs ++ (ys ++ drop
 unfolding put
 back-put w i ys xs = back (i * w) w ys xs
 
--- a run of zero cells comes back from one fill
-pub back-zeros : (w i n : ℕ) (xs : List ℕ) → take (i * w) xs ++ (zeros (n * w) ++ drop (i * w + n * w - i * w) (drop (i * w) xs)) ≡ fill w i n (zeros w) xs
-unfolding fill
-back-zeros w i n xs = back (i * w) (n * w) (zeros (n * w)) xs ∙ ap (λ v. write (i * w) (n * w) v xs) (sym (copies-zeros w n))
+-- a part that is there, or not
+pub within-yes : (a n : ℕ) (xs : List ℕ) → a + n ≤ length xs → within a n xs ≡ true
+within-yes a n xs h = rw (le-leb a (length xs) (omega arith), le-leb n (length xs - a) (omega arith))
+
+pub within-start : (a n : ℕ) (xs : List ℕ) → length xs < a → within a n xs ≡ false
+within-start a n xs h = rw (lt-leb a (length xs) h)
+
+pub within-end : (a n : ℕ) (xs : List ℕ) → a ≤ length xs → length xs - a < n → within a n xs ≡ false
+within-end a n xs h l = rw (le-leb a (length xs) h, lt-leb n (length xs - a) l)
+
+-- cells that become zero
+pub zero-cell : (w i : ℕ) (xs : List ℕ) → i * w + w ≤ length xs → zeroedPart (i * w) w xs ≡ put w i (zeros w) xs
+unfolding zeroedPart put
+zero-cell w i xs h = rw (within-yes (i * w) w xs h)
+
+pub zero-cells : (w i n : ℕ) (xs : List ℕ) → i * w + n * w ≤ length xs → zeroedPart (i * w) (n * w) xs ≡ fill w i n (zeros w) xs
+unfolding zeroedPart fill
+zero-cells w i n xs h = (rw (within-yes (i * w) (n * w) xs h)) ∙ ap (λ v. write (i * w) (n * w) v xs) (sym (copies-zeros w n))
 
 -- a list filled from the front by lending part after part: p is done up to k, and v fills the part from k to e
 pub push : (p d v : List ℕ) (k e : ℕ) → length p ≡ k → k ≤ e

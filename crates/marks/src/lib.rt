@@ -31,8 +31,7 @@ fn mark_differs(marks: &[u8], block: usize, identity: &[u8]) -> bool
     if marks[a] == 0 {
         return false;
     }
-    let e = a + MARK;
-    !cells::equal(&marks[a..e], identity)
+    !cells::same_part(marks, a, MARK, identity)
 }
 
 // Whether one of the n blocks from first differs, block by block.
@@ -56,9 +55,7 @@ fn differs_in_run(marks: &[u8], first: usize, identity: &[u8], pattern: &[u8]) -
     requires { ⌜ (length (now marks) ≡ storeSize) × (first + run ≤ markPlaces) × (length (now identity) ≡ markWidth) × (now pattern ≡ copies run (now identity)) ⌝ }
     ensures { λ r. ⌜ r ≡ someCell markWidth first run (λ block m. differs (now (identity .entry)) m) (now (marks .entry)) ⌝ }
 {
-    let a = first * MARK;
-    let e = a + PATTERN;
-    if cells::equal(&marks[a..e], pattern) {
+    if cells::same_part(marks, first * MARK, PATTERN, pattern) {
         return false;
     }
     differs_each(marks, first, RUN, identity)
@@ -192,7 +189,5 @@ pub fn zero_namespace(marks: &mut [u8], ns: Namespace)
         return;
     }
     let first = (n - 1) * BLOCKS;
-    let a = first * MARK;
-    let e = a + BLOCKS * MARK;
-    cells::fill_zero(&mut marks[a..e]);
+    cells::zero_part(marks, first * MARK, BLOCKS * MARK);
 }

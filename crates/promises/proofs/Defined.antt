@@ -4,6 +4,8 @@ use Rattle.cells.proofs.fill_zero.Met as cells-fill-zero
 use Rattle.cells.proofs.copy.Met as cells-copy
 use Rattle.cells.proofs.equal.Met as cells-equal
 use Rattle.cells.proofs.all_zero.Met as cells-all-zero
+use Rattle.cells.proofs.zero_part.Met as cells-zero-part
+use Rattle.cells.proofs.same_part.Met as cells-same-part
 use Rattle.digits.proofs.read_line.Met as digits-read-line
 use Rattle.digits.proofs.number.Met as digits-number
 use Rattle.digits.proofs.write_answer.Met as digits-write-answer
@@ -43,58 +45,64 @@ defined = (
       (
         cells-all-zero.met,
         (
-          digits-read-line.met,
+          cells-zero-part.met,
           (
-            digits-number.met,
+            cells-same-part.met,
             (
-              digits-write-answer.met,
+              digits-read-line.met,
               (
-                slots-loaded.met,
+                digits-number.met,
                 (
-                  slots-holds-uid.met,
+                  digits-write-answer.met,
                   (
-                    slots-other-key.met,
+                    slots-loaded.met,
                     (
-                      slots-unsound.met,
+                      slots-holds-uid.met,
                       (
-                        slots-store.met,
+                        slots-other-key.met,
                         (
-                          slots-clear.met,
+                          slots-unsound.met,
                           (
-                            slots-clear-namespace.met,
+                            slots-store.met,
                             (
-                              slots-clear-all.met,
+                              slots-clear.met,
                               (
-                                marks-some-differs.met,
+                                slots-clear-namespace.met,
                                 (
-                                  marks-mark.met,
+                                  slots-clear-all.met,
                                   (
-                                    marks-zero-namespace.met,
+                                    marks-some-differs.met,
                                     (
-                                      locks-decide.met,
+                                      marks-mark.met,
                                       (
-                                        locks-shown.met,
+                                        marks-zero-namespace.met,
                                         (
-                                          locks-lock-value.met,
+                                          locks-decide.met,
                                           (
-                                            locks-boot-write.met,
+                                            locks-shown.met,
                                             (
-                                              locks-both-locked.met,
+                                              locks-lock-value.met,
                                               (
-                                                locks-set-locks.met,
+                                                locks-boot-write.met,
                                                 (
-                                                  locks-set-features.met,
+                                                  locks-both-locked.met,
                                                   (
-                                                    drive-start.met,
+                                                    locks-set-locks.met,
                                                     (
-                                                      drive-answer-line.met,
+                                                      locks-set-features.met,
                                                       (
-                                                        drive-answer-session.met,
+                                                        drive-start.met,
                                                         (
-                                                          tuffaleen-c-start.met,
+                                                          drive-answer-line.met,
                                                           (
-                                                            tuffaleen-c-line.met,
-                                                            tuffaleen-c-session.met,
+                                                            drive-answer-session.met,
+                                                            (
+                                                              tuffaleen-c-start.met,
+                                                              (
+                                                                tuffaleen-c-line.met,
+                                                                tuffaleen-c-session.met,
+                                                              ),
+                                                            ),
                                                           ),
                                                         ),
                                                       ),

@@ -16,7 +16,7 @@ use Rattle.drive.specs.declared.Answered.{Answered}
 use Rattle.drive.specs.declared.Called.{Called}
 use Rattle.drive.specs.declared.Session.{Session}
 use Rattle.tuffaleen_c.specs.Image.{CStarted, CCalled, CSession}
-use Rattle.promises.specs.Tight.{Tight-tuffaleen-c-start, Tight-tuffaleen-c-line, Tight-tuffaleen-c-session, Tight-cells-fill-zero, Tight-cells-copy, Tight-cells-equal, Tight-cells-all-zero, Tight-digits-read-line, Tight-digits-number, Tight-digits-write-answer, Tight-slots-loaded, Tight-slots-holds-uid, Tight-slots-other-key, Tight-slots-unsound, Tight-slots-store, Tight-slots-clear, Tight-slots-clear-namespace, Tight-slots-clear-all, Tight-marks-some-differs, Tight-marks-mark, Tight-marks-zero-namespace, Tight-locks-decide, Tight-locks-shown, Tight-locks-lock-value, Tight-locks-boot-write, Tight-locks-both-locked, Tight-locks-set-features, Tight-locks-set-locks, Tight-drive-start, Tight-drive-answer-line, Tight-drive-answer-session}
+use Rattle.promises.specs.Tight.{Tight-tuffaleen-c-start, Tight-tuffaleen-c-line, Tight-tuffaleen-c-session, Tight-cells-fill-zero, Tight-cells-copy, Tight-cells-equal, Tight-cells-all-zero, Tight-cells-zero-part, Tight-cells-same-part, Tight-digits-read-line, Tight-digits-number, Tight-digits-write-answer, Tight-slots-loaded, Tight-slots-holds-uid, Tight-slots-other-key, Tight-slots-unsound, Tight-slots-store, Tight-slots-clear, Tight-slots-clear-namespace, Tight-slots-clear-all, Tight-marks-some-differs, Tight-marks-mark, Tight-marks-zero-namespace, Tight-locks-decide, Tight-locks-shown, Tight-locks-lock-value, Tight-locks-boot-write, Tight-locks-both-locked, Tight-locks-set-features, Tight-locks-set-locks, Tight-drive-start, Tight-drive-answer-line, Tight-drive-answer-session}
 
 -- the law: what two outcomes both equal, they share
 one : {A : Type 0} {x y z : A} → x ≡ z → y ≡ z → x ≡ y
@@ -33,6 +33,12 @@ tight-cells-equal = (λ κs args. tt, λ κs args r r′ e e′ p q. one p q)
 
 pub tight-cells-all-zero : Tight-cells-all-zero
 tight-cells-all-zero = (λ κs args. tt, λ κs args r r′ e e′ p q. one p q)
+
+pub tight-cells-zero-part : Tight-cells-zero-part
+tight-cells-zero-part = (λ κs args. tt, λ κs args r r′ e e′ p q. one p q)
+
+pub tight-cells-same-part : Tight-cells-same-part
+tight-cells-same-part = (λ κs args. tt, λ κs args r r′ e e′ p q. one p q)
 
 pub tight-digits-read-line : Tight-digits-read-line
 tight-digits-read-line = (λ κs args. tt, λ κs args r r′ e e′ p q. ap (λ (w : ReadInto). (w .read, w .frame)) (one p q))

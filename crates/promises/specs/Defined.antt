@@ -5,6 +5,8 @@ use Rattle.cells.proofs.fill_zero.Statement as cells-fill-zero
 use Rattle.cells.proofs.copy.Statement as cells-copy
 use Rattle.cells.proofs.equal.Statement as cells-equal
 use Rattle.cells.proofs.all_zero.Statement as cells-all-zero
+use Rattle.cells.proofs.zero_part.Statement as cells-zero-part
+use Rattle.cells.proofs.same_part.Statement as cells-same-part
 use Rattle.digits.proofs.read_line.Statement as digits-read-line
 use Rattle.digits.proofs.number.Statement as digits-number
 use Rattle.digits.proofs.write_answer.Statement as digits-write-answer
@@ -40,6 +42,8 @@ Defined M =
     × (cells-copy.statement M
     × (cells-equal.statement M
     × (cells-all-zero.statement M
+    × (cells-zero-part.statement M
+    × (cells-same-part.statement M
     × (digits-read-line.statement M
     × (digits-number.statement M
     × (digits-write-answer.statement M
@@ -66,4 +70,4 @@ Defined M =
     × (drive-answer-session.statement M
     × (tuffaleen-c-start.statement M
     × (tuffaleen-c-line.statement M
-    × tuffaleen-c-session.statement M)))))))))))))))))))))))))))))
+    × tuffaleen-c-session.statement M)))))))))))))))))))))))))))))))

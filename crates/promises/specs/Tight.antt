@@ -24,6 +24,8 @@ use Rattle.cells.proofs.fill_zero.Reads as cells-fill-zero
 use Rattle.cells.proofs.copy.Reads as cells-copy
 use Rattle.cells.proofs.equal.Reads as cells-equal
 use Rattle.cells.proofs.all_zero.Reads as cells-all-zero
+use Rattle.cells.proofs.zero_part.Reads as cells-zero-part
+use Rattle.cells.proofs.same_part.Reads as cells-same-part
 use Rattle.digits.proofs.read_line.Reads as digits-read-line
 use Rattle.digits.proofs.number.Reads as digits-number
 use Rattle.digits.proofs.write_answer.Reads as digits-write-answer
@@ -73,6 +75,12 @@ Tight-cells-equal = Tight {Left = Bool} cells-equal.Asked cells-equal.Learnt (λ
 
 abbrev pub Tight-cells-all-zero : Type 0
 Tight-cells-all-zero = Tight {Left = Bool} cells-all-zero.Asked cells-all-zero.Learnt (λ κs result exit. result)
+
+abbrev pub Tight-cells-zero-part : Type 0
+Tight-cells-zero-part = Tight {Left = List ℕ} cells-zero-part.Asked cells-zero-part.Learnt (λ κs result exit. now (exit .0))
+
+abbrev pub Tight-cells-same-part : Type 0
+Tight-cells-same-part = Tight {Left = Bool} cells-same-part.Asked cells-same-part.Learnt (λ κs result exit. result)
 
 abbrev pub Tight-digits-read-line : Type 0
 Tight-digits-read-line = Tight {Left = LineRead × List ℕ} digits-read-line.Asked digits-read-line.Learnt (λ κs result exit. (result, now (exit .1 .0)))

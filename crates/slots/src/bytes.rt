@@ -34,13 +34,10 @@ pub(crate) fn same_uid(keys: &[u8], place: usize, uid: &[u8]) -> bool
 {
     let a = place * SLOT;
     let n = keys[a] as usize;
-    let b = a + 1;
     if n < SLOT {
-        let e = b + n;
-        return cells::equal(&keys[b..e], uid);
+        return cells::same_part(keys, a + 1, n, uid);
     }
-    let e = a + SLOT;
-    cells::equal(&keys[b..e], uid)
+    cells::same_part(keys, a + 1, SLOT - 1, uid)
 }
 
 // Whether the slot is loaded, with this KeyUID.
@@ -62,9 +59,7 @@ pub(crate) fn same_key(keys: &[u8], place: usize, key: &[u8]) -> bool
     requires { ⌜ (length (now keys) ≡ cacheSize) × (place < slotPlaces) ⌝ }
     ensures { λ r. ⌜ r ≡ same (keyOf (cell slotWidth place (now (keys .entry)))) (now (key .entry)) ⌝ }
 {
-    let b = place * SLOT + HEAD;
-    let e = b + KEY;
-    cells::equal(&keys[b..e], key)
+    cells::same_part(keys, place * SLOT + HEAD, KEY, key)
 }
 
 // A slot's head from a KeyUID.
@@ -113,9 +108,7 @@ pub(crate) fn clear_at(keys: &mut [u8], place: usize)
     if place >= SLOTS {
         return;
     }
-    let a = place * SLOT;
-    let e = a + SLOT;
-    cells::fill_zero(&mut keys[a..e]);
+    cells::zero_part(keys, place * SLOT, SLOT);
 }
 
 // The n slots from first on emptied by one fill.
@@ -123,7 +116,5 @@ pub(crate) fn clear_run(keys: &mut [u8], first: usize, n: usize)
     requires { ⌜ (length (now keys) ≡ cacheSize) × (first + n ≤ slotPlaces) ⌝ }
     ensures { λ _. ⌜ (now (keys .exit) ≡ fill slotWidth first n emptied (now (keys .entry))) × (length (now (keys .entry)) ≡ cacheSize) ⌝ }
 {
-    let a = first * SLOT;
-    let e = a + n * SLOT;
-    cells::fill_zero(&mut keys[a..e]);
+    cells::zero_part(keys, first * SLOT, n * SLOT);
 }

@@ -4,8 +4,7 @@ use borrow.Author.Needs.{needs}
 use native.Mathlib.Omega.{arith}
 use mathlib.Core.Path.{refl, sym, _∙_}
 use Prim.Native.Nat.{_*_}
-use Rattle.cells.proofs.CellsLaws.{lent-is}
-use Rattle.cells.proofs.TestsLaws.{same-eq}
+use Rattle.cells.proofs.TestsLaws.{same-eq, same-part}
 use Rattle.rules.specs.Numbers.{markWidth}
 use Rattle.rules.specs.Marks.{differs}
 use Rattle.rules.proofs.MarksLaws.{same-differs}
@@ -14,30 +13,18 @@ use Rattle.marks.proofs.StoreLaws.{none-of-copies}
 use Rattle.marks.proofs.differs_in_run.Statement.{statement}
 use Rattle.marks.proofs.differs_in_run.Tie as tie
 
-mul-a : tie.Need-mul-a
-mul-a c = search needs
+mul-same-part : tie.Need-mul-same-part
+mul-same-part c = search needs
 
-add-e : tie.Need-add-e
-add-e c = search needs
-
-sub-equal : tie.Need-sub-equal
-sub-equal c = search needs
-
-part-equal-start : tie.Need-part-equal-start
-part-equal-start c = search needs
-
-part-equal-end : tie.Need-part-equal-end
-part-equal-end c = search needs
-
-equal-requires : tie.Need-equal-requires
-equal-requires c κs = search needs
+same-part-requires : tie.Need-same-part-requires
+same-part-requires c κs = search needs
 
 returns : tie.Need-returns
 returns c =
-    let s = c .before .before .before .before .before .before .args in
+    let s = c .before .before .before .before .before .args in
     sym (none-of-copies markWidth (s .first) run (λ block m. differs (s .identity .now) m) (s .identity .now) (s .marks .now) (omega arith) (omega arith)
     (λ j. same-differs (s .identity .now) (s .identity .now) refl)
-    (sym (lent-is (s .first * markWidth) (run * markWidth) (s .marks .now)) ∙ same-eq _ _ (sym (c .before .equal .ensures) ∙ c .if1 .taken) ∙ c .before .before .before .before .before .before .pre .3))
+    (same-eq _ _ (sym (same-part (s .first * markWidth) (run * markWidth) (s .marks .now) (s .pattern .now) (omega arith)) ∙ sym (c .before .same-part .ensures) ∙ c .if1 .taken) ∙ c .before .before .before .before .before .pre .3))
 
 differs-each-requires : tie.Need-differs-each-requires
 differs-each-requires c κs = search needs
@@ -49,12 +36,8 @@ pub differs-in-run-spec : {M : Type 1} → statement M
 differs-in-run-spec =
     tie.close
     (tie.spec
-    mul-a
-    add-e
-    sub-equal
-    part-equal-start
-    part-equal-end
-    equal-requires
+    mul-same-part
+    same-part-requires
     returns
     differs-each-requires
     returns-2)

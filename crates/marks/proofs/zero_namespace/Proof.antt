@@ -3,12 +3,11 @@
 use borrow.Author.Needs.{needs}
 use native.Mathlib.Omega.{arith}
 use mathlib.Core.Path.{_≡_, ap, _∙_}
-use mathlib.Core.List.{_++_}
-use Prim.Native.Nat.{_+_, _-_, _*_, _≤_}
-use lib.ListN.{length, take, drop}
+use Prim.Native.Nat.{_-_, _*_, _≤_}
+use lib.ListN.{length}
 use borrow.Author.Tests.{eq-eqb, ne-eqb, lt-ltb, le-ltb}
-use Rattle.cells.specs.Cells.{zeros, fill}
-use Rattle.cells.proofs.CellsLaws.{lent-length, back-zeros}
+use Rattle.cells.specs.Cells.{fill}
+use Rattle.cells.proofs.CellsLaws.{zero-cells}
 use Rattle.rules.specs.Numbers.{namespaces, blocksEach, markWidth, storeSize}
 use Rattle.rules.specs.Marks.{blockOf, neverWritten}
 use Rattle.marks.specs.Store.{zeroed}
@@ -33,26 +32,14 @@ returns-3 c = rw (eq-eqb (length (c .before .before .before .before .before .arg
 mul-first : tie.Need-mul-first
 mul-first c = search needs
 
-mul-a : tie.Need-mul-a
-mul-a c = search needs
+mul-zero-part : tie.Need-mul-zero-part
+mul-zero-part c = search needs
 
-mul-e : tie.Need-mul-e
-mul-e c = search needs
+mul-zero-part-2 : tie.Need-mul-zero-part-2
+mul-zero-part-2 c = search needs
 
-add-e : tie.Need-add-e
-add-e c = search needs
-
-sub-fill-zero : tie.Need-sub-fill-zero
-sub-fill-zero c = search needs
-
-part-fill-zero-start : tie.Need-part-fill-zero-start
-part-fill-zero-start c = search needs
-
-part-fill-zero-end : tie.Need-part-fill-zero-end
-part-fill-zero-end c = search needs
-
-fill-zero-requires : tie.Need-fill-zero-requires
-fill-zero-requires c κs = search needs
+zero-part-requires : tie.Need-zero-part-requires
+zero-part-requires c κs = search needs
 
 same-length : tie.Need-same-length
 same-length c = search needs
@@ -65,12 +52,9 @@ returns-4 c =
     let lo : 1 ≤ s .ns .0 = omega arith in
     let hi : s .ns .0 ≤ namespaces = omega arith in
     let i = (s .ns .0 - 1) * blocksEach in
-    let n = blocksEach * markWidth in
-    let a = i * markWidth in
-    let fits : a + n ≤ length (s .marks .now) = omega arith in
     let at : i ≡ blockOf (s .ns) 0 = omega arith in
-    ap (λ v. take a (s .marks .now) ++ (v ++ drop (a + n - a) (drop a (s .marks .now)))) (c .before .before .fill-zero .ensures ∙ ap zeros (lent-length a n (s .marks .now) fits))
-    ∙ back-zeros markWidth i blocksEach (s .marks .now)
+    c .before .before .zero-part .ensures
+    ∙ zero-cells markWidth i blocksEach (s .marks .now) (omega arith)
     ∙ ap (λ k. fill markWidth k blocksEach neverWritten (s .marks .now)) at
     ∙ (rw (eq-eqb (length (s .marks .now)) storeSize size, le-ltb (s .ns .0) 1 lo, le-ltb namespaces (s .ns .0) hi))
 
@@ -83,12 +67,8 @@ zero-namespace-spec =
     returns-2
     returns-3
     mul-first
-    mul-a
-    mul-e
-    add-e
-    sub-fill-zero
-    part-fill-zero-start
-    part-fill-zero-end
-    fill-zero-requires
+    mul-zero-part
+    mul-zero-part-2
+    zero-part-requires
     same-length
     returns-4)
