@@ -3,22 +3,24 @@
 -- Assumes nothing.
 use mathlib.Core.Path.{_≡_, refl, sym, ap, _∙_}
 use mathlib.Core.Bool.{Bool, true, false, not, _&&_, true≢false}
-use mathlib.Core.List.{List, []}
+use mathlib.Core.List.{List, [], _∷_}
 use Prim.Native.Nat.{ℕ, zero, suc, _≤_, _<_}
 use native.Mathlib.Omega.{arith}
 use Rattle.rules.specs.declared.Namespace.{Namespace}
 use Rattle.rules.specs.declared.Tag.{Tag}
 use Rattle.rules.specs.declared.Drive.{Drive}
 use Rattle.rules.specs.declared.Refusal.{Refusal}
-use Rattle.rules.specs.Numbers.{uidMost, slotPlaces}
-use Rattle.rules.specs.Checks.{Verdict, passed, refused, firstRefusal, settle, judged}
+use Rattle.rules.specs.Numbers.{uidMost, slotWidth, slotPlaces}
+use Rattle.rules.specs.Checks.{_when_, Verdict, passed, refused, firstRefusal, settle, judged}
 use Rattle.rules.specs.State.{State, Outcome, refuse, obey}
-use Rattle.rules.specs.Slots.{placeOf}
+use Rattle.rules.specs.Slots.{placeOf, empty, loaded, uidOf, otherKey}
 use Rattle.rules.specs.Sound.{unsound}
 use Rattle.rules.specs.Frames.{Frame, exactly, badUidLength, unknownKind, kinds}
-use Rattle.rules.specs.Answers.{07·03}
+use Rattle.rules.specs.Answers.{07·03, 07·09, 07·0A, 07·0B, 07·0C}
 use lib.ListN.{length, getD}
 use lib.Dec.{eqb, ltb}
+use Rattle.cells.specs.Cells.{cell}
+use Rattle.cells.specs.Tests.{same}
 use Rattle.cells.proofs.TestsLaws.{or-left, or-right, neither}
 use borrow.Author.Tests.{eq-eqb, ne-eqb, eqb-false, ltb-false, le-ltb}
 use Rattle.rules.specs.Order.{frameRule, load, replace, clearOne}
@@ -28,7 +30,7 @@ use Rattle.rules.proofs.StateLaws.{is-namespace}
 use Rattle.rules.proofs.SlotsLaws.{place-small}
 use Rattle.rules.proofs.EffectsLaws.{named-slot}
 use Rattle.drive.specs.declared.Found.the-variants as found
-use Rattle.drive.specs.Stepping.{state, slotChecks, located, loadAt, replaceAt, clearAt, onReading}
+use Rattle.drive.specs.Stepping.{state, slotChecks, located, putAt, loadAt, replaceAt, clearAt, onReading}
 
 -- soundness does not look at the marks
 pub sound-keys : (d : Drive) (keys marks : List ℕ) → unsound (state d keys marks) ≡ unsound (state d keys [])
@@ -72,8 +74,10 @@ module _ (d : Drive) (keys marks : List ℕ) (ns : Namespace) (tag : Tag) where
   -- load, replace and clear one: the refusal, or what is done at the place
   module _ (uid key : List ℕ) where
     load-by : obey s (load s ns tag uid key) ≡ judged (slotChecks s ns tag) (refuse s) (loadAt s (placeOf ns tag) uid key)
-    unfolding load loadAt storeKey
-    load-by = judged-append (slotChecks s ns tag) _ (refuse s) _
+    unfolding load putAt loadAt storeKey
+    load-by =
+        judged-append (slotChecks s ns tag) _ (refuse s) _
+        ∙ ap (judged (slotChecks s ns tag) (refuse s)) (judged-append (07·09 when loaded (cell slotWidth (placeOf ns tag) keys) ∷ []) (07·0C when otherKey keys uid key ∷ []) (refuse s) _)
 
     pub load-refused : (r : Refusal) → found.Refused r ≡ located (state d [] []) ns tag → refuse s r ≡ obey s (load s ns tag uid key)
     load-refused r e = sym (load-by ∙ refused-by r _ e)
@@ -83,8 +87,10 @@ module _ (d : Drive) (keys marks : List ℕ) (ns : Namespace) (tag : Tag) where
 
     module _ (old : List ℕ) where
       replace-by : obey s (replace s ns tag old uid key) ≡ judged (slotChecks s ns tag) (refuse s) (replaceAt s (placeOf ns tag) old uid key)
-      unfolding replace replaceAt storeKey
-      replace-by = judged-append (slotChecks s ns tag) _ (refuse s) _
+      unfolding replace putAt replaceAt storeKey
+      replace-by =
+          judged-append (slotChecks s ns tag) _ (refuse s) _
+          ∙ ap (judged (slotChecks s ns tag) (refuse s)) (judged-append (07·0A when empty (cell slotWidth (placeOf ns tag) keys) ∷ 07·0B when not (same (uidOf (cell slotWidth (placeOf ns tag) keys)) old) ∷ []) (07·0C when otherKey keys uid key ∷ []) (refuse s) _)
 
       pub replace-refused : (r : Refusal) → found.Refused r ≡ located (state d [] []) ns tag → refuse s r ≡ obey s (replace s ns tag old uid key)
       replace-refused r e = sym (replace-by ∙ refused-by r _ e)

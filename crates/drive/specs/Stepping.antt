@@ -47,13 +47,7 @@ pub record Ready (drive : Drive) (keys marks : List ℕ) : Type 0 where
   pub sound : unsound (state drive keys marks) ≡ false
 
 -- ------------------------------------------------------------------------
--- Checks that several kinds begin with
-
-abbrev pub namespaceChecks : State → Namespace → List (Check Refusal)
-namespaceChecks s ns =
-    00·0B when noNamespace ns
-    ∷ 07·06 when not (managed s ns)
-    ∷ []
+-- The checks that load, replace and clear one begin with
 
 abbrev pub slotChecks : State → Namespace → Tag → List (Check Refusal)
 slotChecks s ns tag =
@@ -66,25 +60,31 @@ slotChecks s ns tag =
 unfoldable pub located : State → Namespace → Tag → Found
 located s ns tag = judged (slotChecks s ns tag) found.Refused (found.Place (placeOf ns tag))
 
--- load, replace and clear one at the place that was found
+-- load, replace and clear one at the place that was found; the last check of the first two, and what both then do
+unfoldable pub putAt : State → ℕ → List ℕ → List ℕ → Outcome
+putAt s place uid key =
+    judged
+    (07·0C when otherKey (s .keys) uid key
+    ∷ [])
+    (refuse s)
+    (record { answer = Done; state = withKeys s (put slotWidth place (slotBytes uid key) (s .keys)) })
+
 unfoldable pub loadAt : State → ℕ → List ℕ → List ℕ → Outcome
 loadAt s place uid key =
     judged
     (07·09 when loaded (cell slotWidth place (s .keys))
-    ∷ 07·0C when otherKey (s .keys) uid key
     ∷ [])
     (refuse s)
-    (record { answer = Done; state = withKeys s (put slotWidth place (slotBytes uid key) (s .keys)) })
+    (putAt s place uid key)
 
 unfoldable pub replaceAt : State → ℕ → List ℕ → List ℕ → List ℕ → Outcome
 replaceAt s place old uid key =
     judged
     (07·0A when empty (cell slotWidth place (s .keys))
     ∷ 07·0B when not (same (uidOf (cell slotWidth place (s .keys))) old)
-    ∷ 07·0C when otherKey (s .keys) uid key
     ∷ [])
     (refuse s)
-    (record { answer = Done; state = withKeys s (put slotWidth place (slotBytes uid key) (s .keys)) })
+    (putAt s place uid key)
 
 unfoldable pub clearAt : State → ℕ → Outcome
 clearAt s place =

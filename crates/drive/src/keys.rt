@@ -10,7 +10,7 @@ ghost use Rattle.rules.specs.Sound.{unsound};
 ghost use Rattle.rules.specs.Order.{manage as manageRule, release as releaseRule, load as loadRule, replace as replaceRule, clearOne as clearOneRule, clearAll as clearAllRule};
 ghost use Rattle.rules.specs.Promises.{IsNamespace};
 ghost use Rattle.rules.specs.Slots.{FitKey, otherKey};
-ghost use Rattle.drive.specs.Stepping.{state, left, Ready, loadAt, replaceAt, clearAt};
+ghost use Rattle.drive.specs.Stepping.{state, left, Ready, putAt, loadAt, replaceAt, clearAt};
 use crate::Answered;
 use crate::Found;
 use crate::answers::count;
@@ -117,6 +117,18 @@ fn other_key(drive: Drive, keys: &Cache, uid: &[u8], key: &[u8]) -> bool
     slots::other_key(counts, keys, uid, key)
 }
 
+// The last check of load and replace, and what both then do.
+fn put(drive: Drive, keys: &mut Cache, place: usize, uid: &[u8], key: &[u8]) -> Answered
+    requires { ⌜ (place < slotPlaces) × FitKey (now uid) (now key) × (unsound (state drive (now keys) []) ≡ false) ⌝ }
+    ensures { λ r. ⌜ ((marks : List ℕ) → left r (now (keys .exit)) marks ≡ putAt (state drive (now (keys .entry)) marks) place (now (uid .entry)) (now (key .entry))) ⌝ }
+{
+    if other_key(drive, keys, uid, key) {
+        return refused(drive, Refusal::OtherKey);
+    }
+    slots::store(keys, place, uid, key);
+    done(drive)
+}
+
 fn load_at(drive: Drive, keys: &mut Cache, place: usize, uid: &[u8], key: &[u8]) -> Answered
     requires { ⌜ (place < slotPlaces) × FitKey (now uid) (now key) × (unsound (state drive (now keys) []) ≡ false) ⌝ }
     ensures { λ r. ⌜ ((marks : List ℕ) → left r (now (keys .exit)) marks ≡ loadAt (state drive (now (keys .entry)) marks) place (now (uid .entry)) (now (key .entry))) ⌝ }
@@ -124,11 +136,7 @@ fn load_at(drive: Drive, keys: &mut Cache, place: usize, uid: &[u8], key: &[u8])
     if slots::loaded(keys, place) {
         return refused(drive, Refusal::SlotOccupied);
     }
-    if other_key(drive, keys, uid, key) {
-        return refused(drive, Refusal::OtherKey);
-    }
-    slots::store(keys, place, uid, key);
-    done(drive)
+    put(drive, keys, place, uid, key)
 }
 
 pub(crate) fn load(
@@ -165,11 +173,7 @@ fn replace_at(
     if !slots::holds_uid(keys, place, old) {
         return refused(drive, Refusal::OtherOldKeyUid);
     }
-    if other_key(drive, keys, uid, key) {
-        return refused(drive, Refusal::OtherKey);
-    }
-    slots::store(keys, place, uid, key);
-    done(drive)
+    put(drive, keys, place, uid, key)
 }
 
 pub(crate) fn replace(

@@ -17,10 +17,6 @@ use Rattle.rules.specs.Marks.{blockOf, neverWritten, differs}
 abbrev pub inStore : List ℕ → ℕ → ℕ → Bool
 inStore marks first n = eqb (length marks) storeSize && leb first markPlaces && leb n (markPlaces - first)
 
--- the marks that one step of the code sets or compares
-abbrev pub run : ℕ
-run = 16
-
 -- one of the n marks from first is of a written block and differs from this identity
 unfoldable pub someDiffers : ℕ → ℕ → List ℕ → List ℕ → Bool
 someDiffers first n identity marks = cond (inStore marks first n) (someCell markWidth first n (λ block m. differs identity m) marks) false

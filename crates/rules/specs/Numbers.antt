@@ -1,7 +1,7 @@
 -- "The drive's numbers". Each stands here once; what follows from them is
 -- computed from them.
 -- Assumes nothing.
-use Prim.Native.Nat.{ℕ, _+_, _*_, _/_}
+use Prim.Native.Nat.{ℕ, _+_, _*_}
 
 -- namespaces 1 to 4, 256 blocks each
 abbrev pub namespaces : ℕ
@@ -51,9 +51,6 @@ storeSize = markPlaces * markWidth
 -- a line is 2 to 140 digits
 abbrev pub digitsMost : ℕ
 digitsMost = 140
-
-abbrev pub frameMost : ℕ
-frameMost = digitsMost / 2
 
 -- an answer line has at most 13 bytes
 abbrev pub answerMost : ℕ

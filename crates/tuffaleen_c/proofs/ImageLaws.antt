@@ -20,7 +20,7 @@ use Rattle.rules.specs.State.{State, Outcome}
 use Rattle.rules.specs.Start.{start}
 use Rattle.rules.specs.Call.{Called, call}
 use Rattle.rules.specs.Sessions.{Session, session}
-use Rattle.tuffaleen_c.specs.Image.{headSize, imageSize, lockOf, noLock, lockByte0, lockByte1, wrongLength, noImage, driveIn, keysIn, stateIn, imageOf, saved, CStarted, cStart, CCalled, cCall, CSession, cSession}
+use Rattle.tuffaleen_c.specs.Image.{smallSize, imageSize, lockOf, noLock, lockByte0, lockByte1, wrongLength, noImage, driveIn, keysIn, stateIn, imageOf, saved, CStarted, cStart, CCalled, cCall, CSession, cSession}
 
 -- ------------------------------------------------------------------------
 -- Lock bytes
@@ -97,18 +97,18 @@ module _ (image counts : List ℕ) (a b : ℕ) (size : length image ≡ imageSiz
   pub length-headed : length (headed image counts a b) ≡ imageSize
   length-headed = simp (length-set, length-append, length-drop) (omega arith)
 
-  headed-is : headed image counts a b ≡ front counts a b ++ drop headSize image
+  headed-is : headed image counts a b ≡ front counts a b ++ drop smallSize image
   headed-is =
       ap (λ l. set l (namespaces + 1) b) (grow counts image namespaces a four (omega arith))
       ∙ grow (counts ++ (a ∷ [])) image (namespaces + 1) b (simp length-append (omega arith)) (omega arith)
 
   -- and the keys behind them
   pub written-is : (keys counts′ keys′ : List ℕ) → counts ≡ counts′ → keys ≡ keys′
-      → take headSize (headed image counts a b) ++ (keys ++ drop (length (headed image counts a b) - headSize) (drop headSize (headed image counts a b))) ≡ counts′ ++ (a ∷ b ∷ keys′)
+      → take smallSize (headed image counts a b) ++ (keys ++ drop (length (headed image counts a b) - smallSize) (drop smallSize (headed image counts a b))) ≡ counts′ ++ (a ∷ b ∷ keys′)
   written-is keys counts′ keys′ c k =
-      back-rest headSize keys (headed image counts a b)
-      ∙ ap (λ l. take headSize l ++ keys) headed-is
-      ∙ ap (λ l. l ++ keys) (take-at (front counts a b) (drop headSize image) headSize (simp length-append (omega arith)))
+      back-rest smallSize keys (headed image counts a b)
+      ∙ ap (λ l. take smallSize l ++ keys) headed-is
+      ∙ ap (λ l. l ++ keys) (take-at (front counts a b) (drop smallSize image) smallSize (simp length-append (omega arith)))
       ∙ append-snoc (counts ++ (a ∷ [])) b keys
       ∙ append-snoc counts a (b ∷ keys)
       ∙ (rw (c, k))

@@ -29,7 +29,7 @@ use Rattle.rules.specs.Call.{callChecks, roomFor, Called, call}
 use Rattle.rules.specs.Sessions.{linesOf, roomForAll, Session, session}
 use Rattle.rules.proofs.ChecksLaws.{judged-cases}
 use Rattle.rules.proofs.Promised.{call-refused-keeps, session-refused-keeps}
-use Rattle.tuffaleen_c.specs.Image.{partitions, headSize, imageSize, lockOf, noLock, lockByte0, lockByte1, noImage, noDrive, driveIn, keysIn, stateIn, imageOf, saved, cStart, cCall, cSession}
+use Rattle.tuffaleen_c.specs.Image.{partitions, smallSize, imageSize, lockOf, noLock, lockByte0, lockByte1, noImage, noDrive, driveIn, keysIn, stateIn, imageOf, saved, cStart, cCall, cSession}
 use Rattle.tuffaleen_c.specs.ImagePromises.{NoImageUnsound, SameImage, SameState, StartKeeps, StartFresh, NoImageWritesNothing, LineRefusedKeepsImage, SessionRefusedKeepsImage, NoImageNoSession}
 use Rattle.tuffaleen_c.proofs.ImageLaws.{is-image, length-image}
 
@@ -53,10 +53,10 @@ same-lock (suc (suc (suc b))) e =
     omega arith
 
 -- the two bytes behind the first namespaces
-split : (image : List ℕ) → headSize ≤ length image → take namespaces image ++ (lockByte0 image ∷ lockByte1 image ∷ drop headSize image) ≡ image
+split : (image : List ℕ) → smallSize ≤ length image → take namespaces image ++ (lockByte0 image ∷ lockByte1 image ∷ drop smallSize image) ≡ image
 split image h =
-    let one : drop (suc namespaces) image ≡ lockByte1 image ∷ drop headSize image = drop-cons image (suc namespaces) 0 (omega arith) in
-    let two : drop namespaces image ≡ lockByte0 image ∷ lockByte1 image ∷ drop headSize image = drop-cons image namespaces 0 (omega arith) ∙ ap (λ l. lockByte0 image ∷ l) one in
+    let one : drop (suc namespaces) image ≡ lockByte1 image ∷ drop smallSize image = drop-cons image (suc namespaces) 0 (omega arith) in
+    let two : drop namespaces image ≡ lockByte0 image ∷ lockByte1 image ∷ drop smallSize image = drop-cons image namespaces 0 (omega arith) ∙ ap (λ l. lockByte0 image ∷ l) one in
     ap (λ l. take namespaces image ++ l) (sym two) ∙ take-append-drop namespaces image
 
 pub same-image : SameImage

@@ -26,11 +26,12 @@ use Rattle.rules.specs.Sessions.{session}
 abbrev pub partitions : ℕ
 partitions = 2
 
-abbrev pub headSize : ℕ
-headSize = namespaces + partitions
+-- the small state: the tag counts, then the locks
+abbrev pub smallSize : ℕ
+smallSize = namespaces + partitions
 
 abbrev pub imageSize : ℕ
-imageSize = headSize + cacheSize
+imageSize = smallSize + cacheSize
 
 -- a lock is kept as its value in Dword 11; 0 is none (noLock)
 abbrev pub lockOf : ℕ → Lock
@@ -70,7 +71,7 @@ driveIn image =
     })
 
 unfoldable pub keysIn : List ℕ → List ℕ
-keysIn image = cond (noImage image) (zeros cacheSize) (drop headSize image)
+keysIn image = cond (noImage image) (zeros cacheSize) (drop smallSize image)
 
 abbrev pub stateIn : List ℕ → List ℕ → State
 stateIn image marks = record { drive = driveIn image; keys = keysIn image; marks = marks }

@@ -13,9 +13,9 @@ use rules::TAGS;
 
 const PARTITIONS: usize = 2;
 
-const HEAD: usize = NAMESPACES + PARTITIONS;
+const SMALL: usize = NAMESPACES + PARTITIONS;
 
-pub(crate) const IMAGE: usize = HEAD + CACHE;
+pub(crate) const IMAGE: usize = SMALL + CACHE;
 
 fn lock_of(b: u8) -> Lock
     ensures { λ r. ⌜ r ≡ lockOf b ⌝ }
@@ -69,7 +69,7 @@ pub(crate) fn keys_in(image: &[u8], keys: &mut Cache)
         cells::fill_zero(keys);
         return;
     }
-    cells::copy(keys, &image[HEAD..]);
+    cells::copy(keys, &image[SMALL..]);
 }
 
 // A state in an image of the right length.
@@ -84,7 +84,7 @@ pub(crate) fn write(image: &mut [u8], drive: Drive, keys: &Cache)
     cells::copy(&mut image[..NAMESPACES], &counts);
     image[NAMESPACES] = locks::lock_value(zero);
     image[NAMESPACES + 1] = locks::lock_value(one);
-    cells::copy(&mut image[HEAD..], keys);
+    cells::copy(&mut image[SMALL..], keys);
 }
 
 pub(crate) fn save(image: &mut [u8], drive: Drive, keys: &Cache)

@@ -10,7 +10,7 @@ use Rattle.cells.specs.Tests.{someCell}
 use Rattle.cells.proofs.TestsLaws.{some-start}
 use Rattle.rules.specs.Numbers.{markWidth}
 use Rattle.rules.specs.Marks.{differs}
-use Rattle.marks.specs.Store.{run}
+use Rattle.marks.specs.Steps.{run}
 use Rattle.marks.proofs.StoreLaws.{fill-whole, some-within, some-after}
 use Rattle.marks.proofs.differs_by_runs.Statement.{statement}
 use Rattle.marks.proofs.differs_by_runs.Tie as tie

@@ -8,7 +8,7 @@ use Rattle.cells.proofs.TestsLaws.{same-eq, same-part}
 use Rattle.rules.specs.Numbers.{markWidth}
 use Rattle.rules.specs.Marks.{differs}
 use Rattle.rules.proofs.MarksLaws.{same-differs}
-use Rattle.marks.specs.Store.{run}
+use Rattle.marks.specs.Steps.{run}
 use Rattle.marks.proofs.StoreLaws.{none-of-copies}
 use Rattle.marks.proofs.differs_in_run.Statement.{statement}
 use Rattle.marks.proofs.differs_in_run.Tie as tie

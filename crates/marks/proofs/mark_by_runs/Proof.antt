@@ -8,7 +8,7 @@ use lib.ListN.{length}
 use Rattle.cells.specs.Cells.{copies, fill}
 use Rattle.cells.proofs.CellsLaws.{copied, length-copies, length-fill, fill-none}
 use Rattle.rules.specs.Numbers.{markWidth}
-use Rattle.marks.specs.Store.{run}
+use Rattle.marks.specs.Steps.{run}
 use Rattle.marks.proofs.StoreLaws.{fill-more, back-fill, fill-whole}
 use Rattle.marks.proofs.mark_by_runs.Statement.{statement}
 use Rattle.marks.proofs.mark_by_runs.Tie as tie

@@ -9,7 +9,7 @@ use lib.ListN.{length}
 use Rattle.cells.specs.Cells.{zeros}
 use Rattle.cells.proofs.CellsLaws.{lent-rest, lent-length-to}
 use Rattle.rules.specs.Numbers.{cacheSize}
-use Rattle.tuffaleen_c.specs.Image.{headSize, imageSize, keysIn}
+use Rattle.tuffaleen_c.specs.Image.{smallSize, imageSize, keysIn}
 use Rattle.tuffaleen_c.proofs.ImageLaws.{image-length, copied-whole}
 use Rattle.tuffaleen_c.proofs.image.keys_in.Statement.{statement}
 use Rattle.tuffaleen_c.proofs.image.keys_in.Tie as tie
@@ -48,11 +48,11 @@ returns-2 c =
     let e = c .before .before .before in
     let s = e .before .before .before .args in
     let full : length (s .keys .now) ≡ cacheSize = search needs in
-    let rest : length (s .image .now) - headSize ≡ cacheSize = omega (arith, size e) in
+    let rest : length (s .image .now) - smallSize ≡ cacheSize = omega (arith, size e) in
     rw (sym (e .before .no-image .ensures) ∙ e .if1 .left)
     (c .copy .ensures
-    ∙ copied-whole (s .keys .now) _ (full ∙ sym (lent-length-to headSize (length (s .image .now)) (s .image .now) (le-refl _) ∙ rest))
-    ∙ lent-rest headSize (s .image .now))
+    ∙ copied-whole (s .keys .now) _ (full ∙ sym (lent-length-to smallSize (length (s .image .now)) (s .image .now) (le-refl _) ∙ rest))
+    ∙ lent-rest smallSize (s .image .now))
 
 pub keys-in-spec : {M : Type 1} → statement M
 keys-in-spec =

@@ -12,7 +12,7 @@ use lib.Seq.{length-take-le}
 use Rattle.cells.proofs.CellsLaws.{copied}
 use Rattle.rules.specs.Numbers.{namespaces, cacheSize}
 use Rattle.rules.specs.Locks.{lockValue}
-use Rattle.tuffaleen_c.specs.Image.{headSize, imageSize, imageOf}
+use Rattle.tuffaleen_c.specs.Image.{smallSize, imageSize, imageOf}
 use Rattle.tuffaleen_c.proofs.ImageLaws.{copied-whole, headed, length-counted, length-headed, length-image, written-is}
 use Rattle.tuffaleen_c.proofs.image.write.Statement.{statement}
 use Rattle.tuffaleen_c.proofs.image.write.Tie as tie
@@ -57,13 +57,13 @@ full c = search needs
 keys-are : (c : tie.After-copy2) → c .copy2 .last .0 ≡ entry (copied-counts (put-locks c)) .args .keys .now
 keys-are c =
     let h : List ℕ = head (put-locks c) in
-    let rest : length h - headSize ≡ cacheSize = omega (arith, size (put-locks c)) in
-    c .copy2 .ensures ∙ copied headSize (length h) h (entry (copied-counts (put-locks c)) .args .keys .now) (le-refl (length h)) (rest ∙ sym (full c))
+    let rest : length h - smallSize ≡ cacheSize = omega (arith, size (put-locks c)) in
+    c .copy2 .ensures ∙ copied smallSize (length h) h (entry (copied-counts (put-locks c)) .args .keys .now) (le-refl (length h)) (rest ∙ sym (full c))
 
 written : (c : tie.After-copy2) →
     let b = put-locks c in
     let s = entry (copied-counts b) .args in
-    take headSize (head b) ++ (c .copy2 .last .0 ++ drop (length (head b) - headSize) (drop headSize (head b))) ≡ s .drive .counts ++ (b .before .lock-value .result ∷ b .lock-value2 .result ∷ s .keys .now)
+    take smallSize (head b) ++ (c .copy2 .last .0 ++ drop (length (head b) - smallSize) (drop smallSize (head b))) ≡ s .drive .counts ++ (b .before .lock-value .result ∷ b .lock-value2 .result ∷ s .keys .now)
 written c =
     let b = put-locks c in
     let p = copied-counts b in
