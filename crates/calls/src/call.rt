@@ -1,20 +1,20 @@
 // One call of the library, and what its line of text says after the label.
-use crate::Bench;
+use crate::Cache;
 use crate::MOST;
 use crate::Marks;
 use crate::ROOM;
+use crate::Setting;
 use crate::made;
 use crate::show;
 use crate::text::least;
 use drive::Answered;
-use drive::Called;
-use rules::CACHE;
-use rules::Cache;
-use rules::Drive;
+use drive::Reply;
+use rules::CACHE_SIZE;
+use rules::Registers;
 
-fn same_drive(a: Drive, b: Drive) -> bool {
-    let x = show::drive(a);
-    let y = show::drive(b);
+fn same_registers(a: Registers, b: Registers) -> bool {
+    let x = show::registers(a);
+    let y = show::registers(b);
     cells::equal(&x, &y)
 }
 
@@ -27,29 +27,36 @@ fn same_marks(a: &Marks, b: &Marks) -> bool {
 }
 
 fn lend_line(
-    bench: Bench,
-    keys: &mut Cache,
+    setting: Setting,
+    keys: &mut [u8],
     marks: &mut [u8],
     frame: &[u8],
     out: &mut [u8],
-) -> Called {
-    let drive = bench.drive;
-    let n = least(bench.store, marks.len());
-    let m = least(bench.room, out.len());
-    drive::answer_line(drive, keys, &mut marks[0..n], frame, &mut out[0..m])
+) -> Reply {
+    let registers = setting.registers;
+    let k = least(setting.cache, keys.len());
+    let n = least(setting.store, marks.len());
+    let m = least(setting.room, out.len());
+    drive::answer_line(
+        registers,
+        &mut keys[0..k],
+        &mut marks[0..n],
+        frame,
+        &mut out[0..m],
+    )
 }
 
 // A call of answer_line: number, bytes written, whether state with cache, store and the rest of the output stayed.
-pub fn line(bench: Bench, keys: &mut Cache, marks: &mut Marks, frame: &[u8]) -> Drive {
+pub fn line(setting: Setting, keys: &mut Cache, marks: &mut Marks, frame: &[u8]) -> Registers {
     let kept_keys = *keys;
     let kept_marks = *marks;
     let mut out = [b'.'; ROOM];
-    let left = lend_line(bench, keys, marks, frame, &mut out);
+    let left = lend_line(setting, keys, marks, frame, &mut out);
     let answer = left.answer;
-    let after = left.drive;
-    let before = bench.drive;
+    let after = left.registers;
+    let before = setting.registers;
     show::answer(answer, &out, left.bytes);
-    let small = same_drive(after, before);
+    let small = same_registers(after, before);
     let cache = same_cache(keys, &kept_keys);
     show::same_or_changed(b" state", small && cache);
     let store = same_marks(marks, &kept_marks);
@@ -58,9 +65,10 @@ pub fn line(bench: Bench, keys: &mut Cache, marks: &mut Marks, frame: &[u8]) -> 
     after
 }
 
-fn lend_start(keys: &mut Cache, marks: &mut [u8], store: usize) -> Answered {
+fn lend_start(keys: &mut [u8], marks: &mut [u8], store: usize, cache: usize) -> Answered {
+    let k = least(cache, keys.len());
     let n = least(store, marks.len());
-    drive::start(keys, &mut marks[0..n])
+    drive::start(&mut keys[0..k], &mut marks[0..n])
 }
 
 fn all_zero(marks: &[u8], store: usize) -> bool {
@@ -69,17 +77,17 @@ fn all_zero(marks: &[u8], store: usize) -> bool {
 }
 
 // A call of start: number, whether the state is fresh, whether the store stayed, and whether the lent part is zeros.
-pub fn start(keys: &mut Cache, marks: &mut Marks, store: usize) -> Drive {
-    *keys = [7u8; CACHE];
+pub fn start(keys: &mut Cache, marks: &mut Marks, store: usize, cache: usize) -> Registers {
+    *keys = [7u8; CACHE_SIZE];
     *marks = [7u8; MOST];
     let kept = *marks;
-    let left = lend_start(keys, marks, store);
+    let left = lend_start(keys, marks, store, cache);
     let answer = left.answer;
-    let after = left.drive;
+    let after = left.registers;
     show::number(answer);
-    let small = same_drive(after, made::fresh());
-    let cache = cells::all_zero(keys);
-    show::where_so(b" fresh", small && cache);
+    let small = same_registers(after, made::fresh());
+    let empty = cells::all_zero(keys);
+    show::where_so(b" fresh", small && empty);
     let same = same_marks(marks, &kept);
     show::same_or_changed(b" marks", same);
     let zero = all_zero(marks, store);

@@ -2,8 +2,8 @@
 use crate::ROOM;
 use libc::STDOUT_FILENO;
 use rules::Answer;
-use rules::Drive;
 use rules::NAMESPACES;
+use rules::Registers;
 
 pub fn text(s: &[u8]) {
     io::write_all(STDOUT_FILENO, s);
@@ -87,9 +87,9 @@ pub fn rest(out: &[u8], bytes: usize) {
 }
 
 // The small state as bytes: the counts, then the locks.
-pub fn drive(drive: Drive) -> [u8; NAMESPACES + 2] {
-    let counts = drive.counts;
-    let locks = drive.locks;
+pub fn registers(registers: Registers) -> [u8; NAMESPACES + 2] {
+    let counts = registers.counts;
+    let locks = registers.locks;
     let zero = locks.partition0;
     let one = locks.partition1;
     [

@@ -4,8 +4,8 @@ ghost use lib.ListN.{length};
 use rules::NAMESPACES;
 use std::num::wrapping_sub_u8;
 
-// As many numbers as an input line may have: two lengths, the tag counts, and three for a slot.
-pub const NUMBERS: usize = 2 + NAMESPACES + 3;
+// As many numbers as an input line may have: two lengths, the tag counts, three for a slot, and one for the cache.
+pub const NUMBERS: usize = 2 + NAMESPACES + 3 + 1;
 
 pub fn least(a: usize, b: usize) -> usize
     ensures { λ r. ⌜ r ≤ b ⌝ }
@@ -14,6 +14,16 @@ pub fn least(a: usize, b: usize) -> usize
         return a;
     }
     b
+}
+
+// The difference, or 0.
+pub(crate) fn less(a: usize, b: usize) -> usize
+    ensures { λ r. ⌜ r ≤ a ⌝ }
+{
+    if a < b {
+        return 0;
+    }
+    a - b
 }
 
 // Where this byte first stands, from there on; the text's end where it does not.

@@ -14,9 +14,9 @@ use lib.Seq.{drop-cons, take-suc, length-take-le}
 use lib.Dec.{eqb, leb, ltb, eqb·zero-suc, eqb·suc-suc}
 use borrow.Author.Tests.{leb-true, lt-ltb, le-ltb, eqb-false}
 use Rattle.cells.proofs.CellsLaws.{grow}
-use Rattle.cells.proofs.TestsLaws.{and-left, and-right, true-or-false}
+use Rattle.cells.proofs.PredicatesLaws.{and-left, and-right, true-or-false}
 use Rattle.rules.specs.FrameLine.{isDigit, valueOf, firstBad, decoded}
-use Rattle.digits.specs.Steps.{Valued, allDigits, framed}
+use Rattle.digits.specs.Decoding.{Valued, allDigits, framed}
 
 pub outside : (a z d : ℕ) → (a ≤ d → d ≤ z → ⊥) → leb a d && leb d z ≡ false
 outside a z d out = true-or-false _ (λ e. out (leb-true a d (and-left _ _ e)) (leb-true d z (and-right (leb a d) _ e)))

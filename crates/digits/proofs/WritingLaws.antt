@@ -2,12 +2,14 @@
 -- that has these bytes.
 -- Assumes nothing.
 use mathlib.Core.Path.{_≡_, refl, ap, _∙_}
+use mathlib.Core.Bool.{Bool, true, false, cond}
 use mathlib.Core.List.{List, [], _∷_, _++_, append-assoc}
 use Prim.Native.Nat.{ℕ, _+_, _*_, _/_, _%_, _≤_, _<_}
 use native.Mathlib.Omega.{arith}
 use native.Mathlib.Numerals.{add-one}
 use lib.ListN.{length, getD, take, drop, set, length-append}
 use lib.Seq.{take-suc, length-take-le}
+use lib.Dec.{leb}
 use borrow.Author.Tests.{le-leb, lt-leb}
 use Rattle.cells.proofs.CellsLaws.{grow}
 use Rattle.rules.specs.declared.Answer.{Answer}
@@ -61,3 +63,14 @@ module _ (a : Answer) (bs out : List ℕ) (has : answerBytes a ≡ bs) where
   unfolding wrote
   wrote-all h =
       rw (length-line, le-leb (length bs * 2 + 1) (length out) (omega arith), line-is, grow (digitsOf bs) out (length bs * 2) lineFeed (length-digits bs) h)
+
+-- what was written stands in the output
+fits-either : (b : Bool) (x y : Wrote) → x .bytes ≤ length (x .out) → y .bytes ≤ length (y .out) → cond b x y .bytes ≤ length (cond b x y .out)
+fits-either true x y p q = p
+fits-either false x y p q = q
+
+pub wrote-fits : (a : Answer) (out : List ℕ) → wrote a out .bytes ≤ length (wrote a out .out)
+unfolding wrote
+wrote-fits a out =
+    let size = length-append (answerLine a) (drop (length (answerLine a)) out) in
+    fits-either (leb (length (answerLine a)) (length out)) _ _ (omega arith) (omega arith)

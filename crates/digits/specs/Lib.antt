@@ -1,2 +1,2 @@
 pub mod Digits
-pub mod Steps
+pub mod Decoding

@@ -7,10 +7,10 @@ ghost use lib.ListN.{length, drop};
 ghost use Rattle.rules.specs.Answers.{refusalNumber, number as numberOf, answerBytes, digitOf, digitsOf};
 ghost use Rattle.rules.specs.FrameLine.{firstBad};
 ghost use Rattle.digits.specs.Digits.{readInto, wrote};
-ghost use Rattle.digits.specs.Steps.{Valued, allDigits, framed};
+ghost use Rattle.digits.specs.Decoding.{Valued, allDigits, framed};
 use rules::Answer;
-use rules::DIGITS;
-use rules::FRAME;
+use rules::DIGITS_MOST;
+use rules::FRAME_MOST;
 use rules::LineRead;
 use rules::Refusal;
 use std::num::wrapping_sub_u8;
@@ -92,14 +92,14 @@ fn decode(line: &[u8], frame: &mut [u8]) -> usize
 
 // Reads a line into the front of the frame, and says how many bytes it has or why it is no frame line. A good line is gone through
 // twice, each time without a way out; only a line with a bad digit is decoded pair by pair, up to that digit.
-pub fn read_line(line: &[u8], frame: &mut [u8; FRAME]) -> LineRead
+pub fn read_line(line: &[u8], frame: &mut [u8; FRAME_MOST]) -> LineRead
     ensures { λ r. ⌜ record { read = r; frame = now (frame .exit) } ≡ readInto (now (line .entry)) (now (frame .entry)) ⌝ }
 {
     let n = line.len();
     if n == 0 {
         return LineRead::Empty;
     }
-    if n > DIGITS {
+    if n > DIGITS_MOST {
         return LineRead::TooLong;
     }
     if !all_digits(line) {

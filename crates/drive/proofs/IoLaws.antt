@@ -11,25 +11,24 @@ use native.Mathlib.Nat.{add-zero}
 use native.Mathlib.Omega.{arith}
 use lib.ListN.{length, take}
 use lib.Seq.{take-all, take-append-le, take-append-add, length-take-le}
-use lib.Dec.{ltb}
-use borrow.Author.Tests.{ltb-false, eqb-true, eq-eqb, le-leb}
-use Rattle.cells.specs.Cells.{part, zeros}
+use lib.Dec.{leb, ltb}
+use borrow.Author.Tests.{ltb-false, eqb-true, eq-eqb, ne-eqb, le-leb}
+use Rattle.cells.specs.Cells.{part, cell, zeros}
 use Rattle.cells.proofs.CellsLaws.{length-cell, part-zeros, part-part, part-cell}
-use Rattle.cells.proofs.TestsLaws.{true-or-false}
+use Rattle.cells.proofs.PredicatesLaws.{true-or-false}
 use Rattle.rules.specs.declared.Command.{Command}
-use Rattle.rules.specs.declared.Drive.{Drive}
+use Rattle.rules.specs.declared.Registers.{Registers}
 use Rattle.rules.specs.declared.Refusal.{Refusal}
 use Rattle.rules.specs.declared.Answer.the-variants.{Done}
 use Rattle.rules.specs.Numbers.{blocksEach, uidMost, slotWidth, slotPlaces, identityMost, markWidth, markPlaces, storeSize}
 use Rattle.rules.specs.Checks.{Check, _when_, Verdict, passed, refused, firstRefusal, settle, judged, onlyIf, AllPass}
-use Rattle.rules.specs.Answers.{00·01, 00·0B, 00·28, 00·80}
-use Rattle.rules.specs.State.{State, Outcome, refuse, obey, noNamespace, managed, tagAbove}
-use Rattle.rules.specs.Slots.{placeOf, slot, padded, empty, uidOf, held}
+use Rattle.rules.specs.Answers.{00·01, 00·02, 00·0B, 00·25, 00·28, 00·80}
+use Rattle.rules.specs.State.{State, Outcome, refuse, obey, noNamespace, count, managed, tagAbove, IsNamespace}
+use Rattle.rules.specs.Slots.{placeOf, slot, padded, empty, uidOf, held, IsSlot}
 use Rattle.rules.specs.Marks.{blockOf, keptIdentity, identityOf}
 use Rattle.rules.specs.Sound.{slotUnsound}
 use Rattle.rules.specs.Effects.{markCovered, onlyWhen}
 use Rattle.rules.specs.Order.{command, isWrite, isReading, commandChecks, keyChecks, markCheck, wrongKey}
-use Rattle.rules.specs.Promises.{IsNamespace, IsSlot}
 use Rattle.rules.proofs.ChecksLaws.{judged-append, judged-cases}
 use Rattle.rules.proofs.StateLaws.{is-namespace}
 use Rattle.rules.proofs.SlotsLaws.{place-small}
@@ -40,9 +39,10 @@ use Rattle.slots.proofs.HeadLaws.{sound-head}
 use Rattle.marks.specs.Store.{inStore, someDiffers, marked}
 use Rattle.drive.specs.declared.Access.{Access}
 use Rattle.drive.specs.declared.Access.the-variants.{Write, Reads, Neither}
+use Rattle.drive.specs.declared.Found.the-variants as found
 use Rattle.drive.specs.declared.Reach.{Reach}
 use Rattle.drive.specs.declared.Reach.the-variants.{Place, Unmanaged, Refused}
-use Rattle.drive.specs.Stepping.{state, Ready, accessOf, reached, Known}
+use Rattle.drive.specs.Acting.{state, Ready, accessOf, placed as placedBy, keyed, reached, Known}
 
 -- ------------------------------------------------------------------------
 -- What an opcode opens
@@ -112,14 +112,21 @@ module _ (s : State) (c : Command) where
 
   -- the outcome after these, and where it leads, by whether the namespace is managed
   abbrev later : Bool → Outcome
-  later m = judged (onlyIf m (keyChecks s c ++ onlyIf (isReading c) (markCheck s c))) (refuse s) (record { answer = Done; state = onlyWhen (m && isWrite c) (markCovered s c) s })
+  later m =
+      judged (onlyIf m (keyChecks s c ++ onlyIf (isReading c) (markCheck s c))) (refuse s)
+      (record { answer = Done; state = onlyWhen (m && isWrite c) (markCovered s c) s })
 
-  abbrev keyed : Bool → Reach
-  keyed m = cond m (judged (keyChecks s c) Refused (Place (placeOf (c .ns) (c .tag)))) Unmanaged
+  abbrev goes : Bool → Reach
+  goes m = cond m (keyed s c) Unmanaged
 
-  keyed-leads : (m : Bool) → later m ≡ leads s c (keyed m)
+  keyed-leads : (m : Bool) → later m ≡ leads s c (goes m)
+  unfolding keyed
   keyed-leads true =
-      judged-append (keyChecks s c) (onlyIf (isReading c) (markCheck s c)) (refuse s) (record { answer = Done; state = onlyWhen (isWrite c) (markCovered s c) s })
+      judged-append (keyChecks s c) (onlyIf (isReading c) (markCheck s c)) (refuse s) (record {
+        answer =
+            Done;
+        state = onlyWhen (isWrite c) (markCovered s c) s;
+      })
       ∙ sym (settle-map (leads s c) (firstRefusal (keyChecks s c)) Refused (Place (placeOf (c .ns) (c .tag))))
   keyed-leads false = refl
 
@@ -129,12 +136,48 @@ module _ (s : State) (c : Command) where
       judged-append (commandChecks c) (onlyIf (managed s (c .ns)) (keyChecks s c ++ onlyIf (isReading c) (markCheck s c))) (refuse s) _
       ∙ ap (λ b. judged (00·01 when not b ∷ rangeChecks) (refuse s) (later (managed s (c .ns)))) e
       ∙ ap (judged rangeChecks (refuse s)) (keyed-leads (managed s (c .ns)))
-      ∙ sym (settle-map (leads s c) (firstRefusal rangeChecks) Refused (keyed (managed s (c .ns))))
+      ∙ sym (settle-map (leads s c) (firstRefusal rangeChecks) Refused (goes (managed s (c .ns))))
 
   -- and one with another opcode
   pub unknown-leads : isWrite c || isReading c ≡ false → obey s (command s c) ≡ refuse s 00·01
   unfolding command
   unknown-leads e = rw e
+
+-- ------------------------------------------------------------------------
+-- The key checks, by the place that the tag leads to
+
+refused-place : (b : Bool) (p : ℕ) (r : Refusal) → found.Refused r ≡ judged (00·25 when b ∷ []) found.Refused (found.Place p) → (b ≡ true) × (r ≡ 00·25)
+refused-place true p r e = (refl, cc)
+refused-place false p r e = absurd (let z : _≡_ {A = ℕ} 0 1 = cc in omega arith)
+
+found-place : (b : Bool) (p q : ℕ) → found.Place q ≡ judged (00·25 when b ∷ []) found.Refused (found.Place p) → (b ≡ false) × (q ≡ p)
+found-place true p q e = absurd (let z : _≡_ {A = ℕ} 0 1 = cc in omega arith)
+found-place false p q e = (refl, cc)
+
+module _ (s : State) (c : Command) where
+  pub wrong-type : (c .cetype ≡ 1 → ⊥) → Refused 00·02 ≡ keyed s c
+  unfolding keyed
+  wrong-type h = rw (ne-eqb (c .cetype) 1 h)
+
+  module _ (n : ℕ) (is : n ≡ count s (c .ns)) (one : c .cetype ≡ 1) where
+    abbrev above : Bool
+    above = leb n (c .tag .0)
+
+    above-is : (b : Bool) → above ≡ b → tagAbove s (c .ns) (c .tag) ≡ b
+    above-is b e = ap (λ k. leb k (c .tag .0)) (sym is) ∙ e
+
+    pub tag-refused : (r : Refusal) → found.Refused r ≡ placedBy n (c .ns) (c .tag) → Refused r ≡ keyed s c
+    unfolding keyed placedBy
+    tag-refused r e =
+        let p = refused-place above (placeOf (c .ns) (c .tag)) r e in
+        rw (eq-eqb (c .cetype) 1 one, above-is true (p .0), p .1)
+
+    pub tag-found : (q : ℕ) → found.Place q ≡ placedBy n (c .ns) (c .tag)
+        → judged (00·25 when empty (cell slotWidth q (s .keys)) ∷ []) Refused (Place q) ≡ keyed s c
+    unfolding keyed placedBy
+    tag-found q e =
+        let p = found-place above (placeOf (c .ns) (c .tag)) q e in
+        rw (eq-eqb (c .cetype) 1 one, above-is false (p .0), p .1)
 
 -- ------------------------------------------------------------------------
 -- A command that reaches a slot
@@ -160,14 +203,15 @@ pub record Placed (s : State) (c : Command) (place : ℕ) : Type 0 where
   pub full : empty (slot s (c .ns) (c .tag)) ≡ false
 
 module _ (s : State) (c : Command) (place : ℕ) where
-  keys-passed : (m : Bool) → keyed s c m ≡ Place place → AllPass (keyChecks s c) × (placeOf (c .ns) (c .tag) ≡ place)
+  keys-passed : (m : Bool) → goes s c m ≡ Place place → AllPass (keyChecks s c) × (placeOf (c .ns) (c .tag) ≡ place)
+  unfolding keyed
   keys-passed true e = let p = passed-all (keyChecks s c) (Place (placeOf (c .ns) (c .tag))) place e in (p .0, cc)
   keys-passed false e = absurd (never-unmanaged place e)
 
   placed : Place place ≡ reached s c → Placed s c place
   unfolding reached
   placed e =
-      let p = passed-all (rangeChecks s c) (keyed s c (managed s (c .ns))) place (sym e) in
+      let p = passed-all (rangeChecks s c) (goes s c (managed s (c .ns))) place (sym e) in
       let k = keys-passed (managed s (c .ns)) (p .1) in
       record {
         at = k .1;
@@ -178,9 +222,9 @@ module _ (s : State) (c : Command) (place : ℕ) where
       }
 
 -- `reach` does not look at the marks
-reached-marks : (drive : Drive) (keys marks : List ℕ) (c : Command) → reached (state drive keys []) c ≡ reached (state drive keys marks) c
-unfolding reached
-reached-marks drive keys marks c = refl
+reached-marks : (registers : Registers) (keys marks : List ℕ) (c : Command) → reached (state registers keys []) c ≡ reached (state registers keys marks) c
+unfolding reached keyed
+reached-marks registers keys marks c = refl
 
 -- ------------------------------------------------------------------------
 -- The ways of a write and of what reads
@@ -192,9 +236,9 @@ module _ (c : Command) where
   read-not-write : isReading c ≡ true → isWrite c ≡ false
   read-not-write e = true-or-false (isWrite c) (λ w. true≢false (sym e ∙ write-not-read w))
 
-module _ (drive : Drive) (keys marks : List ℕ) (c : Command) where
+module _ (registers : Registers) (keys marks : List ℕ) (c : Command) where
   abbrev s : State
-  s = state drive keys marks
+  s = state registers keys marks
 
   abbrev outcome : Outcome
   outcome = obey s (command s c)
@@ -203,14 +247,14 @@ module _ (drive : Drive) (keys marks : List ℕ) (c : Command) where
   known-is true e = rw e
   known-is false e = rw (read-not-write c e, e)
 
-  pub known-leads : (writes : Bool) → Known c writes → {r : Reach} → r ≡ reached (state drive keys []) c → leads s c r ≡ outcome
-  known-leads writes e q = sym (opened-leads s c (known-is writes e) ∙ ap (leads s c) (sym (q ∙ reached-marks drive keys marks c)))
+  pub known-leads : (writes : Bool) → Known c writes → {r : Reach} → r ≡ reached (state registers keys []) c → leads s c r ≡ outcome
+  known-leads writes e q = sym (opened-leads s c (known-is writes e) ∙ ap (leads s c) (sym (q ∙ reached-marks registers keys marks c)))
 
-  module _ {place : ℕ} (to : Place place ≡ reached (state drive keys []) c) where
+  module _ {place : ℕ} (to : Place place ≡ reached (state registers keys []) c) where
     pub lands : Placed s c place
-    lands = placed s c place (to ∙ reached-marks drive keys marks c)
+    lands = placed s c place (to ∙ reached-marks registers keys marks c)
 
-    module _ (ready : Ready drive keys marks) where
+    module _ (ready : Ready registers keys marks) where
       named : IsSlot (c .ns) (c .tag)
       named = named-slot s (ready .sound) (c .ns) (c .tag) (lands .namespace) (lands .tag)
 
@@ -221,7 +265,8 @@ module _ (drive : Drive) (keys marks : List ℕ) (c : Command) where
       identity-is : identityOf (held (slot s (c .ns) (c .tag))) ≡ part (place * slotWidth) markWidth keys
       identity-is =
           let fits = slot-fits s (ready .sized) (c .ns) (c .tag) named in
-          held-identity (slot s (c .ns) (c .tag)) (length-cell slotWidth (placeOf (c .ns) (c .tag)) keys fits) (rw (lands .tag) at (sound-slot s (ready .sound) (c .ns) (c .tag) named)) (lands .full)
+          held-identity (slot s (c .ns) (c .tag)) (length-cell slotWidth (placeOf (c .ns) (c .tag)) keys fits)
+          (rw (lands .tag) at (sound-slot s (ready .sound) (c .ns) (c .tag) named)) (lands .full)
           ∙ part-cell slotWidth (placeOf (c .ns) (c .tag)) 0 markWidth keys fits (omega arith)
           ∙ (rw (lands .at, add-zero))
 
@@ -229,19 +274,26 @@ module _ (drive : Drive) (keys marks : List ℕ) (c : Command) where
       in-store =
           let p = lands in
           let block : ℕ = blockOf (c .ns) (c .first) in
-          rw (eq-eqb (length marks) storeSize (ready .sized .store), le-leb block markPlaces (omega arith), le-leb (c .more + 1) (markPlaces - block) (omega arith))
+          let right = eq-eqb (length marks) storeSize (ready .sized .store) in
+          rw (right, le-leb block markPlaces (omega arith), le-leb (c .more + 1) (markPlaces - block) (omega arith))
 
-      covered-is : state drive keys (marked (blockOf (c .ns) (c .first)) (c .more + 1) (part (place * slotWidth) markWidth keys) marks) ≡ markCovered s c
+      covered-is : state registers keys (marked (blockOf (c .ns) (c .first)) (c .more + 1) (part (place * slotWidth) markWidth keys) marks) ≡ markCovered s c
       unfolding marked markCovered
       covered-is =
-          rw (in-store, eq-eqb (length (part (place * slotWidth) markWidth keys)) markWidth (ap length (sym identity-is) ∙ length-held-identity (held (slot s (c .ns) (c .tag)))), identity-is)
+          let full = ap length (sym identity-is) ∙ length-held-identity (held (slot s (c .ns) (c .tag))) in
+          rw (in-store, eq-eqb (length (part (place * slotWidth) markWidth keys)) markWidth full, identity-is)
 
       wrong-is : someDiffers (blockOf (c .ns) (c .first)) (c .more + 1) (part (place * slotWidth) markWidth keys) marks ≡ wrongKey s c
       unfolding someDiffers wrongKey
       wrong-is = rw (in-store, identity-is)
 
       -- a write marks the blocks
-      pub written : isWrite c ≡ true → record { answer = Done; state = state drive keys (marked (blockOf (c .ns) (c .first)) (c .more + 1) (part (place * slotWidth) markWidth keys) marks) } ≡ outcome
+      pub written : isWrite c ≡ true → record {
+        answer =
+            Done;
+        state = state registers keys
+            (marked (blockOf (c .ns) (c .first)) (c .more + 1) (part (place * slotWidth) markWidth keys) marks);
+      } ≡ outcome
       written e = rw covered-is (rw (write-not-read c e, e) at (known-leads true e to))
 
       -- what reads is refused by the marks, or changes nothing

@@ -1,5 +1,6 @@
-pub mod FieldsLaws
+pub mod ActingLaws
+pub mod AdmitLaws
 pub mod IoLaws
-pub mod LineLaws
-pub mod SessionLaws
-pub mod SteppingLaws
+pub mod KeysLaws
+pub mod LinesLaws
+pub mod RunningLaws

@@ -1,2 +1,2 @@
-pub mod Stepping
-pub mod Running
+pub mod Acting
+pub mod Lines

@@ -4,76 +4,27 @@ ghost use mathlib.Core.List.{List, []};
 ghost use Prim.Native.Nat.{ℕ, _+_, _*_, _≤_, _<_};
 ghost use lib.ListN.{length};
 ghost use Rattle.cells.specs.Cells.{part};
-ghost use Rattle.rules.specs.FrameLine.{little};
-ghost use Rattle.rules.specs.State.{obey};
-ghost use Rattle.rules.specs.Frames.{commandOf};
+ghost use Rattle.rules.specs.State.{obey, count as countOf, IsNamespace};
 ghost use Rattle.rules.specs.Numbers.{blocksEach, slotWidth, slotPlaces, cacheSize, markWidth};
 ghost use Rattle.rules.specs.Marks.{blockOf};
 ghost use Rattle.rules.specs.Order.{command as commandRule};
-ghost use Rattle.rules.specs.Promises.{IsNamespace};
 ghost use Rattle.marks.specs.Store.{someDiffers, marked};
-ghost use Rattle.drive.specs.Stepping.{state, left, Ready, accessOf, reached, Known};
+ghost use Rattle.drive.specs.Acting.{state, outcome, Ready, accessOf, outOfRange, keyed, reached, Known};
 use crate::Access;
 use crate::Answered;
+use crate::Found;
 use crate::Reach;
 use crate::answers::count;
 use crate::answers::done;
 use crate::answers::no_namespace;
+use crate::answers::place;
 use crate::answers::refused;
-use rules::BLOCKS;
-use rules::Cache;
+use rules::BLOCKS_EACH;
 use rules::Command;
-use rules::Drive;
-use rules::MARK;
-use rules::Namespace;
+use rules::MARK_WIDTH;
 use rules::Refusal;
-use rules::SLOT;
-use rules::TAGS;
-use rules::Tag;
-
-// Two, four and eight bytes from at, the lowest first.
-pub(crate) fn word(f: &[u8], at: usize) -> u16
-    requires { ⌜ at + 2 ≤ length (now f) ⌝ }
-    ensures { λ r. ⌜ r ≡ little (part at 2 (now (f .entry))) ⌝ }
-{
-    let low = f[at] as u16;
-    let high = f[at + 1] as u16;
-    low + 256 * high
-}
-
-pub(crate) fn dword(f: &[u8], at: usize) -> u32
-    requires { ⌜ at + 4 ≤ length (now f) ⌝ }
-    ensures { λ r. ⌜ r ≡ little (part at 4 (now (f .entry))) ⌝ }
-{
-    let low = word(f, at) as u32;
-    let high = word(f, at + 2) as u32;
-    low + 65536 * high
-}
-
-fn qword(f: &[u8], at: usize) -> u64
-    requires { ⌜ at + 8 ≤ length (now f) ⌝ }
-    ensures { λ r. ⌜ r ≡ little (part at 8 (now (f .entry))) ⌝ }
-{
-    let low = dword(f, at) as u64;
-    let high = dword(f, at + 4) as u64;
-    low + 4294967296 * high
-}
-
-// The fields of a 64-byte command. CETYPE is bits 19:16 of Dword 12.
-pub(crate) fn fields(c: &[u8]) -> Command
-    requires { ⌜ length (now c) ≡ 64 ⌝ }
-    ensures { λ r. ⌜ r ≡ commandOf (now (c .entry)) ⌝ }
-{
-    let dword12 = dword(c, 48);
-    Command {
-        opcode: c[0],
-        ns: Namespace(dword(c, 4)),
-        first: qword(c, 40),
-        more: word(c, 48),
-        cetype: (dword12 >> 16) & 15,
-        tag: Tag(word(c, 52)),
-    }
-}
+use rules::Registers;
+use rules::SLOT_WIDTH;
 
 fn access(opcode: u8) -> Access
     ensures { λ r. ⌜ r ≡ accessOf opcode ⌝ }
@@ -85,35 +36,51 @@ fn access(opcode: u8) -> Access
     }
 }
 
-// The checks of a command with a known opcode, up to the marks. First block is a 64-bit number: it is tested before it is added to.
-fn reach(drive: Drive, keys: &Cache, c: Command) -> Reach
-    ensures { λ r. ⌜ r ≡ reached (state drive (now (keys .entry)) []) c ⌝ }
+// 00 80. First block is a 64-bit number: it is tested before it is added to.
+fn out_of_range(c: Command) -> bool
+    ensures { λ r. ⌜ r ≡ outOfRange c ⌝ }
+{
+    if c.first >= BLOCKS_EACH as u64 {
+        return true;
+    }
+    c.first as usize + c.more as usize + 1 > BLOCKS_EACH
+}
+
+// The key checks of a managed namespace with n tags.
+fn key_place(registers: Registers, keys: &[u8], c: Command, n: u8) -> Reach
+    requires { ⌜ (length (now keys) ≡ cacheSize) × (IsNamespace (c .ns) × (n ≡ countOf (state registers [] []) (c .ns))) ⌝ }
+    ensures { λ r. ⌜ r ≡ keyed (state registers (now (keys .entry)) []) c ⌝ }
+{
+    if c.cetype != 1 {
+        return Reach::Refused(Refusal::InvalidField);
+    }
+    match place(n, c.ns, c.tag) {
+        Found::Refused(r) => Reach::Refused(r),
+        Found::Place(at) => {
+            if !slots::loaded(keys, at) {
+                return Reach::Refused(Refusal::InvalidKeyTag);
+            }
+            Reach::Place(at)
+        }
+    }
+}
+
+// The checks of a command with a known opcode, up to the marks.
+fn reach(registers: Registers, keys: &[u8], c: Command) -> Reach
+    requires { ⌜ length (now keys) ≡ cacheSize ⌝ }
+    ensures { λ r. ⌜ r ≡ reached (state registers (now (keys .entry)) []) c ⌝ }
 {
     if no_namespace(c.ns) {
         return Reach::Refused(Refusal::InvalidNamespace);
     }
-    if c.first >= BLOCKS as u64 {
+    if out_of_range(c) {
         return Reach::Refused(Refusal::BlocksOutOfRange);
     }
-    if c.first as usize + c.more as usize + 1 > BLOCKS {
-        return Reach::Refused(Refusal::BlocksOutOfRange);
-    }
-    let n = count(drive, c.ns);
+    let n = count(registers, c.ns);
     if n == 0 {
         return Reach::Unmanaged;
     }
-    if c.cetype != 1 {
-        return Reach::Refused(Refusal::InvalidField);
-    }
-    let t = c.tag.0 as usize;
-    if t >= n as usize {
-        return Reach::Refused(Refusal::InvalidKeyTag);
-    }
-    let place = (c.ns.0 as usize - 1) * TAGS + t;
-    if !slots::loaded(keys, place) {
-        return Reach::Refused(Refusal::InvalidKeyTag);
-    }
-    Reach::Place(place)
+    key_place(registers, keys, c, n)
 }
 
 // 00 28: whether a covered block was written under another identity than that of the slot's key.
@@ -121,18 +88,18 @@ fn wrong_key(keys: &[u8], marks: &[u8], place: usize, block: usize, n: usize) ->
     requires { ⌜ (length (now keys) ≡ cacheSize) × (place < slotPlaces) ⌝ }
     ensures { λ r. ⌜ r ≡ someDiffers block n (part (place * slotWidth) markWidth (now (keys .entry))) (now (marks .entry)) ⌝ }
 {
-    let a = place * SLOT;
-    let e = a + MARK;
+    let a = place * SLOT_WIDTH;
+    let e = a + MARK_WIDTH;
     marks::some_differs(marks, block, n, &keys[a..e])
 }
 
-// The covered marks become the identity of the slot's key: its first MARK bytes.
+// The covered marks become the identity of the slot's key: its first MARK_WIDTH bytes.
 fn mark_covered(keys: &[u8], marks: &mut [u8], place: usize, block: usize, n: usize)
     requires { ⌜ (length (now keys) ≡ cacheSize) × (place < slotPlaces) ⌝ }
     ensures { λ _. ⌜ now (marks .exit) ≡ marked block n (part (place * slotWidth) markWidth (now (keys .entry))) (now (marks .entry)) ⌝ }
 {
-    let a = place * SLOT;
-    let e = a + MARK;
+    let a = place * SLOT_WIDTH;
+    let e = a + MARK_WIDTH;
     marks::mark(marks, block, n, &keys[a..e]);
 }
 
@@ -141,54 +108,57 @@ fn block_of(c: Command) -> usize
     requires { ⌜ IsNamespace (c .ns) × (c .first < blocksEach) ⌝ }
     ensures { λ r. ⌜ r ≡ blockOf (c .ns) (c .first) ⌝ }
 {
-    (c.ns.0 as usize - 1) * BLOCKS + c.first as usize
+    (c.ns.0 as usize - 1) * BLOCKS_EACH + c.first as usize
 }
 
 // At a slot: a write marks the covered blocks; a read, compare or verify is held to their marks.
 fn at_place(
-    drive: Drive,
-    keys: &Cache,
+    registers: Registers,
+    keys: &[u8],
     marks: &mut [u8],
     c: Command,
     place: usize,
     writes: bool,
 ) -> Answered
-    requires { ⌜ Ready drive (now keys) (now marks) × Known c writes × (Reach.Place place ≡ reached (state drive (now keys) []) c) ⌝ }
-    ensures { λ r. ⌜ left r (now (keys .entry)) (now (marks .exit)) ≡ obey (state drive (now (keys .entry)) (now (marks .entry))) (commandRule (state drive (now (keys .entry)) (now (marks .entry))) c) ⌝ }
+    requires { ⌜ Ready registers (now keys) (now marks) × Known c writes × (Reach.Place place ≡ reached (state registers (now keys) []) c) ⌝ }
+    ensures { λ r. ⌜ outcome r (now (keys .entry)) (now (marks .exit))
+        ≡ obey (state registers (now (keys .entry)) (now (marks .entry))) (commandRule (state registers (now (keys .entry)) (now (marks .entry))) c) ⌝ }
 {
     let block = block_of(c);
     let n = c.more as usize + 1;
     if writes {
         mark_covered(keys, marks, place, block, n);
-        return done(drive);
+        return done(registers);
     }
     if wrong_key(keys, marks, place, block, n) {
-        return refused(drive, Refusal::IncorrectKey);
+        return refused(registers, Refusal::IncorrectKey);
     }
-    done(drive)
+    done(registers)
 }
 
 // A command with a known opcode.
-fn known(drive: Drive, keys: &Cache, marks: &mut [u8], c: Command, writes: bool) -> Answered
-    requires { ⌜ Ready drive (now keys) (now marks) × Known c writes ⌝ }
-    ensures { λ r. ⌜ left r (now (keys .entry)) (now (marks .exit)) ≡ obey (state drive (now (keys .entry)) (now (marks .entry))) (commandRule (state drive (now (keys .entry)) (now (marks .entry))) c) ⌝ }
+fn known(registers: Registers, keys: &[u8], marks: &mut [u8], c: Command, writes: bool) -> Answered
+    requires { ⌜ Ready registers (now keys) (now marks) × Known c writes ⌝ }
+    ensures { λ r. ⌜ outcome r (now (keys .entry)) (now (marks .exit))
+        ≡ obey (state registers (now (keys .entry)) (now (marks .entry))) (commandRule (state registers (now (keys .entry)) (now (marks .entry))) c) ⌝ }
 {
-    match reach(drive, keys, c) {
-        Reach::Refused(r) => refused(drive, r),
-        Reach::Unmanaged => done(drive),
-        Reach::Place(place) => at_place(drive, keys, marks, c, place, writes),
+    match reach(registers, keys, c) {
+        Reach::Refused(r) => refused(registers, r),
+        Reach::Unmanaged => done(registers),
+        Reach::Place(place) => at_place(registers, keys, marks, c, place, writes),
     }
 }
 
 // One I/O command. It leaves the keys as they are.
-pub(crate) fn command(drive: Drive, keys: &Cache, marks: &mut [u8], c: Command) -> Answered
-    requires { ⌜ Ready drive (now keys) (now marks) ⌝ }
-    ensures { λ r. ⌜ left r (now (keys .entry)) (now (marks .exit)) ≡ obey (state drive (now (keys .entry)) (now (marks .entry))) (commandRule (state drive (now (keys .entry)) (now (marks .entry))) c) ⌝ }
+pub(crate) fn command(registers: Registers, keys: &[u8], marks: &mut [u8], c: Command) -> Answered
+    requires { ⌜ Ready registers (now keys) (now marks) ⌝ }
+    ensures { λ r. ⌜ outcome r (now (keys .entry)) (now (marks .exit))
+        ≡ obey (state registers (now (keys .entry)) (now (marks .entry))) (commandRule (state registers (now (keys .entry)) (now (marks .entry))) c) ⌝ }
 {
     let opcode = c.opcode;
     match access(opcode) {
-        Access::Neither => refused(drive, Refusal::InvalidOpcode),
-        Access::Write => known(drive, keys, marks, c, true),
-        Access::Reads => known(drive, keys, marks, c, false),
+        Access::Neither => refused(registers, Refusal::InvalidOpcode),
+        Access::Write => known(registers, keys, marks, c, true),
+        Access::Reads => known(registers, keys, marks, c, false),
     }
 }

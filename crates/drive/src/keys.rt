@@ -1,16 +1,14 @@
 // The frames on keys: manage, release, load, replace, clear one, clear all.
 ghost use mathlib.Core.Path.{_≡_};
-ghost use mathlib.Core.Bool.{false};
-ghost use mathlib.Core.List.{List, []};
+ghost use mathlib.Core.List.{List};
 ghost use Prim.Native.Nat.{ℕ, _-_, _*_, _≤_, _<_};
 ghost use lib.ListN.{length, set};
-ghost use Rattle.rules.specs.Numbers.{slotPlaces};
-ghost use Rattle.rules.specs.State.{obey, total as totalOf};
-ghost use Rattle.rules.specs.Sound.{unsound};
-ghost use Rattle.rules.specs.Order.{manage as manageRule, release as releaseRule, load as loadRule, replace as replaceRule, clearOne as clearOneRule, clearAll as clearAllRule};
-ghost use Rattle.rules.specs.Promises.{IsNamespace};
+ghost use Rattle.rules.specs.Numbers.{slotPlaces, cacheSize};
+ghost use Rattle.rules.specs.State.{obey, total as totalOf, IsNamespace};
+ghost use Rattle.rules.specs.Order.{manage as manageRule, release as releaseRule, load as loadRule, replace as replaceRule, clearOne as clearOneRule};
+ghost use Rattle.rules.specs.Order.{clearAll as clearAllRule};
 ghost use Rattle.rules.specs.Slots.{FitKey, otherKey};
-ghost use Rattle.drive.specs.Stepping.{state, left, Ready, putAt, loadAt, replaceAt, clearAt};
+ghost use Rattle.drive.specs.Acting.{state, outcome, contents, Ready, Sound, putAt, loadAt, replaceAt, clearAt};
 use crate::Answered;
 use crate::Found;
 use crate::answers::count;
@@ -18,13 +16,13 @@ use crate::answers::done;
 use crate::answers::locate;
 use crate::answers::no_namespace;
 use crate::answers::refused;
-use rules::Cache;
-use rules::Drive;
+use crate::answers::with_counts;
 use rules::NAMESPACES;
 use rules::Namespace;
-use rules::POOL;
+use rules::POOL_SLOTS;
 use rules::Refusal;
-use rules::TAGS;
+use rules::Registers;
+use rules::TAGS_MOST;
 use rules::Tag;
 
 // A byte as a number, with its bound.
@@ -46,171 +44,186 @@ fn total(counts: [u8; NAMESPACES]) -> usize
     sum
 }
 
-fn with_count(drive: Drive, ns: Namespace, tags: u8) -> Drive
+fn with_count(registers: Registers, ns: Namespace, tags: u8) -> Registers
     requires { ⌜ IsNamespace ns ⌝ }
-    ensures { λ r. ⌜ r ≡ record { counts = set (drive .counts) (ns .0 - 1) tags; locks = drive .locks } ⌝ }
+    ensures { λ r. ⌜ r ≡ record { counts = set (registers .counts) (ns .0 - 1) tags; locks = registers .locks } ⌝ }
 {
-    let mut counts = drive.counts;
+    let mut counts = registers.counts;
     let i = ns.0 as usize - 1;
     counts[i] = tags;
-    let locks = drive.locks;
-    Drive { counts, locks }
+    with_counts(registers, counts)
 }
 
-pub(crate) fn manage(drive: Drive, ns: Namespace, tags: u8) -> Answered
-    ensures { λ r. ⌜ ((keys marks : List ℕ) → left r keys marks ≡ obey (state drive keys marks) (manageRule (state drive keys marks) ns tags)) ⌝ }
+pub(crate) fn manage(registers: Registers, ns: Namespace, tags: u8) -> Answered
+    ensures { λ r. ⌜ ((keys marks : List ℕ) → outcome r keys marks ≡ obey (state registers keys marks) (manageRule (state registers keys marks) ns tags)) ⌝ }
 {
     if no_namespace(ns) {
-        return refused(drive, Refusal::InvalidNamespace);
+        return refused(registers, Refusal::InvalidNamespace);
     }
-    if count(drive, ns) != 0 {
-        return refused(drive, Refusal::AlreadyManaged);
+    if count(registers, ns) != 0 {
+        return refused(registers, Refusal::AlreadyManaged);
     }
     let n = tags as usize;
     if n == 0 {
-        return refused(drive, Refusal::BadTagCount);
+        return refused(registers, Refusal::BadTagCount);
     }
-    if n > TAGS {
-        return refused(drive, Refusal::BadTagCount);
+    if n > TAGS_MOST {
+        return refused(registers, Refusal::BadTagCount);
     }
-    let counts = drive.counts;
-    if total(counts) + n > POOL {
-        return refused(drive, Refusal::PoolTooSmall);
+    let counts = registers.counts;
+    if total(counts) + n > POOL_SLOTS {
+        return refused(registers, Refusal::PoolTooSmall);
     }
-    done(with_count(drive, ns, tags))
+    done(with_count(registers, ns, tags))
 }
 
-pub(crate) fn release(drive: Drive, keys: &mut Cache, marks: &mut [u8], ns: Namespace) -> Answered
-    requires { ⌜ Ready drive (now keys) (now marks) ⌝ }
-    ensures { λ r. ⌜ left r (now (keys .exit)) (now (marks .exit)) ≡ obey (state drive (now (keys .entry)) (now (marks .entry))) (releaseRule (state drive (now (keys .entry)) (now (marks .entry))) ns) ⌝ }
+pub(crate) fn release(
+    registers: Registers,
+    keys: &mut [u8],
+    marks: &mut [u8],
+    ns: Namespace,
+) -> Answered
+    requires { ⌜ Ready registers (now keys) (now marks) ⌝ }
+    ensures { λ r. ⌜ outcome r (now (keys .exit)) (now (marks .exit))
+        ≡ obey (state registers (now (keys .entry)) (now (marks .entry))) (releaseRule (state registers (now (keys .entry)) (now (marks .entry))) ns) ⌝ }
 {
     if no_namespace(ns) {
-        return refused(drive, Refusal::InvalidNamespace);
+        return refused(registers, Refusal::InvalidNamespace);
     }
-    if count(drive, ns) == 0 {
-        return refused(drive, Refusal::NotManaged);
+    if count(registers, ns) == 0 {
+        return refused(registers, Refusal::NotManaged);
     }
     slots::clear_namespace(keys, ns);
     marks::zero_namespace(marks, ns);
-    done(with_count(drive, ns, 0))
+    done(with_count(registers, ns, 0))
 }
 
-pub(crate) fn clear_all(drive: Drive, keys: &mut Cache, ns: Namespace) -> Answered
-    ensures { λ r. ⌜ ((marks : List ℕ) → left r (now (keys .exit)) marks ≡ obey (state drive (now (keys .entry)) marks) (clearAllRule (state drive (now (keys .entry)) marks) ns)) ⌝ }
+pub(crate) fn clear_all(registers: Registers, keys: &mut [u8], ns: Namespace) -> Answered
+    requires { ⌜ length (now keys) ≡ cacheSize ⌝ }
+    ensures { λ r. ⌜ ((marks : List ℕ) → outcome r (now (keys .exit)) marks
+        ≡ obey (state registers (now (keys .entry)) marks) (clearAllRule (state registers (now (keys .entry)) marks) ns)) ⌝ }
 {
     if no_namespace(ns) {
-        return refused(drive, Refusal::InvalidNamespace);
+        return refused(registers, Refusal::InvalidNamespace);
     }
-    if count(drive, ns) == 0 {
-        return refused(drive, Refusal::NotManaged);
+    if count(registers, ns) == 0 {
+        return refused(registers, Refusal::NotManaged);
     }
     slots::clear_namespace(keys, ns);
-    done(drive)
+    done(registers)
 }
 
 // 07 0C. In a sound state only allocated tags have a loaded slot, so that no other is looked at.
-fn other_key(drive: Drive, keys: &Cache, uid: &[u8], key: &[u8]) -> bool
-    requires { ⌜ FitKey (now uid) (now key) × (unsound (state drive (now keys) []) ≡ false) ⌝ }
-    ensures { λ r. ⌜ r ≡ otherKey (now (keys .entry)) (now (uid .entry)) (now (key .entry)) ⌝ }
+fn other_key(registers: Registers, keys: &[u8], uid: &[u8], key: &[u8]) -> bool
+    requires { ⌜ FitKey (contents (now uid) (now key)) × Sound registers (now keys) ⌝ }
+    ensures { λ r. ⌜ r ≡ otherKey (now (keys .entry)) (contents (now (uid .entry)) (now (key .entry))) ⌝ }
 {
-    let counts = drive.counts;
+    let counts = registers.counts;
     slots::other_key(counts, keys, uid, key)
 }
 
 // The last check of load and replace, and what both then do.
-fn put(drive: Drive, keys: &mut Cache, place: usize, uid: &[u8], key: &[u8]) -> Answered
-    requires { ⌜ (place < slotPlaces) × FitKey (now uid) (now key) × (unsound (state drive (now keys) []) ≡ false) ⌝ }
-    ensures { λ r. ⌜ ((marks : List ℕ) → left r (now (keys .exit)) marks ≡ putAt (state drive (now (keys .entry)) marks) place (now (uid .entry)) (now (key .entry))) ⌝ }
+fn put(registers: Registers, keys: &mut [u8], place: usize, uid: &[u8], key: &[u8]) -> Answered
+    requires { ⌜ (place < slotPlaces) × FitKey (contents (now uid) (now key)) × Sound registers (now keys) ⌝ }
+    ensures { λ r. ⌜ ((marks : List ℕ) → outcome r (now (keys .exit)) marks
+        ≡ putAt (state registers (now (keys .entry)) marks) place (contents (now (uid .entry)) (now (key .entry)))) ⌝ }
 {
-    if other_key(drive, keys, uid, key) {
-        return refused(drive, Refusal::OtherKey);
+    if other_key(registers, keys, uid, key) {
+        return refused(registers, Refusal::OtherKey);
     }
     slots::store(keys, place, uid, key);
-    done(drive)
+    done(registers)
 }
 
-fn load_at(drive: Drive, keys: &mut Cache, place: usize, uid: &[u8], key: &[u8]) -> Answered
-    requires { ⌜ (place < slotPlaces) × FitKey (now uid) (now key) × (unsound (state drive (now keys) []) ≡ false) ⌝ }
-    ensures { λ r. ⌜ ((marks : List ℕ) → left r (now (keys .exit)) marks ≡ loadAt (state drive (now (keys .entry)) marks) place (now (uid .entry)) (now (key .entry))) ⌝ }
+fn load_at(registers: Registers, keys: &mut [u8], place: usize, uid: &[u8], key: &[u8]) -> Answered
+    requires { ⌜ (place < slotPlaces) × FitKey (contents (now uid) (now key)) × Sound registers (now keys) ⌝ }
+    ensures { λ r. ⌜ ((marks : List ℕ) → outcome r (now (keys .exit)) marks
+        ≡ loadAt (state registers (now (keys .entry)) marks) place (contents (now (uid .entry)) (now (key .entry)))) ⌝ }
 {
     if slots::loaded(keys, place) {
-        return refused(drive, Refusal::SlotOccupied);
+        return refused(registers, Refusal::SlotOccupied);
     }
-    put(drive, keys, place, uid, key)
+    put(registers, keys, place, uid, key)
 }
 
 pub(crate) fn load(
-    drive: Drive,
-    keys: &mut Cache,
+    registers: Registers,
+    keys: &mut [u8],
     ns: Namespace,
     tag: Tag,
     uid: &[u8],
     key: &[u8],
 ) -> Answered
-    requires { ⌜ (unsound (state drive (now keys) []) ≡ false) × FitKey (now uid) (now key) ⌝ }
-    ensures { λ r. ⌜ ((marks : List ℕ) → left r (now (keys .exit)) marks ≡ obey (state drive (now (keys .entry)) marks) (loadRule (state drive (now (keys .entry)) marks) ns tag (now (uid .entry)) (now (key .entry)))) ⌝ }
+    requires { ⌜ Sound registers (now keys) × FitKey (contents (now uid) (now key)) ⌝ }
+    ensures { λ r. ⌜ ((marks : List ℕ) → outcome r (now (keys .exit)) marks
+        ≡ obey (state registers (now (keys .entry)) marks)
+        (loadRule (state registers (now (keys .entry)) marks) ns tag (contents (now (uid .entry)) (now (key .entry))))) ⌝ }
 {
-    match locate(drive, ns, tag) {
-        Found::Refused(r) => refused(drive, r),
-        Found::Place(place) => load_at(drive, keys, place, uid, key),
+    match locate(registers, ns, tag) {
+        Found::Refused(r) => refused(registers, r),
+        Found::Place(place) => load_at(registers, keys, place, uid, key),
     }
 }
 
 fn replace_at(
-    drive: Drive,
-    keys: &mut Cache,
+    registers: Registers,
+    keys: &mut [u8],
     place: usize,
     old: &[u8],
     uid: &[u8],
     key: &[u8],
 ) -> Answered
-    requires { ⌜ (place < slotPlaces) × FitKey (now uid) (now key) × (unsound (state drive (now keys) []) ≡ false) ⌝ }
-    ensures { λ r. ⌜ ((marks : List ℕ) → left r (now (keys .exit)) marks ≡ replaceAt (state drive (now (keys .entry)) marks) place (now (old .entry)) (now (uid .entry)) (now (key .entry))) ⌝ }
+    requires { ⌜ (place < slotPlaces) × FitKey (contents (now uid) (now key)) × Sound registers (now keys) ⌝ }
+    ensures { λ r. ⌜ ((marks : List ℕ) → outcome r (now (keys .exit)) marks
+        ≡ replaceAt (state registers (now (keys .entry)) marks) place (now (old .entry)) (contents (now (uid .entry)) (now (key .entry)))) ⌝ }
 {
     if !slots::loaded(keys, place) {
-        return refused(drive, Refusal::SlotEmpty);
+        return refused(registers, Refusal::SlotEmpty);
     }
     if !slots::holds_uid(keys, place, old) {
-        return refused(drive, Refusal::OtherOldKeyUid);
+        return refused(registers, Refusal::OtherOldKeyUid);
     }
-    put(drive, keys, place, uid, key)
+    put(registers, keys, place, uid, key)
 }
 
 pub(crate) fn replace(
-    drive: Drive,
-    keys: &mut Cache,
+    registers: Registers,
+    keys: &mut [u8],
     ns: Namespace,
     tag: Tag,
     old: &[u8],
     uid: &[u8],
     key: &[u8],
 ) -> Answered
-    requires { ⌜ (unsound (state drive (now keys) []) ≡ false) × FitKey (now uid) (now key) ⌝ }
-    ensures { λ r. ⌜ ((marks : List ℕ) → left r (now (keys .exit)) marks ≡ obey (state drive (now (keys .entry)) marks) (replaceRule (state drive (now (keys .entry)) marks) ns tag (now (old .entry)) (now (uid .entry)) (now (key .entry)))) ⌝ }
+    requires { ⌜ Sound registers (now keys) × FitKey (contents (now uid) (now key)) ⌝ }
+    ensures { λ r. ⌜ ((marks : List ℕ) → outcome r (now (keys .exit)) marks
+        ≡ obey (state registers (now (keys .entry)) marks)
+        (replaceRule (state registers (now (keys .entry)) marks) ns tag (now (old .entry)) (contents (now (uid .entry)) (now (key .entry))))) ⌝ }
 {
-    match locate(drive, ns, tag) {
-        Found::Refused(r) => refused(drive, r),
-        Found::Place(place) => replace_at(drive, keys, place, old, uid, key),
+    match locate(registers, ns, tag) {
+        Found::Refused(r) => refused(registers, r),
+        Found::Place(place) => replace_at(registers, keys, place, old, uid, key),
     }
 }
 
-fn clear_at(drive: Drive, keys: &mut Cache, place: usize) -> Answered
-    requires { ⌜ place < slotPlaces ⌝ }
-    ensures { λ r. ⌜ ((marks : List ℕ) → left r (now (keys .exit)) marks ≡ clearAt (state drive (now (keys .entry)) marks) place) ⌝ }
+fn clear_at(registers: Registers, keys: &mut [u8], place: usize) -> Answered
+    requires { ⌜ (place < slotPlaces) × (length (now keys) ≡ cacheSize) ⌝ }
+    ensures { λ r. ⌜ ((marks : List ℕ) → outcome r (now (keys .exit)) marks ≡ clearAt (state registers (now (keys .entry)) marks) place) ⌝ }
 {
     if !slots::loaded(keys, place) {
-        return refused(drive, Refusal::SlotEmpty);
+        return refused(registers, Refusal::SlotEmpty);
     }
     slots::clear(keys, place);
-    done(drive)
+    done(registers)
 }
 
-pub(crate) fn clear_one(drive: Drive, keys: &mut Cache, ns: Namespace, tag: Tag) -> Answered
-    requires { ⌜ unsound (state drive (now keys) []) ≡ false ⌝ }
-    ensures { λ r. ⌜ ((marks : List ℕ) → left r (now (keys .exit)) marks ≡ obey (state drive (now (keys .entry)) marks) (clearOneRule (state drive (now (keys .entry)) marks) ns tag)) ⌝ }
+pub(crate) fn clear_one(registers: Registers, keys: &mut [u8], ns: Namespace, tag: Tag) -> Answered
+    requires { ⌜ Sound registers (now keys) ⌝ }
+    ensures { λ r. ⌜ ((marks : List ℕ) → outcome r (now (keys .exit)) marks
+        ≡ obey (state registers (now (keys .entry)) marks) (clearOneRule (state registers (now (keys .entry)) marks) ns tag)) ⌝ }
 {
-    match locate(drive, ns, tag) {
-        Found::Refused(r) => refused(drive, r),
-        Found::Place(place) => clear_at(drive, keys, place),
+    match locate(registers, ns, tag) {
+        Found::Refused(r) => refused(registers, r),
+        Found::Place(place) => clear_at(registers, keys, place),
     }
 }

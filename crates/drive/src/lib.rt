@@ -1,37 +1,48 @@
-// The drive: a frame read from its bytes, the checks of each kind in the paper's order, the effects.
-// What needs a sound state is private; what others call refuses an unsound one itself.
+// The drive: the checks of each frame in the paper's order, and its effects. What needs a sound state is private; what others call refuses
+// an unsound one itself. Key cache and mark store are lent, at any length, and never copied.
 ghost use mathlib.Core.Path.{_≡_};
+ghost use Prim.Native.Nat.{_≤_};
+ghost use lib.ListN.{length};
 ghost use Rattle.rules.specs.Start.{start as started};
-ghost use Rattle.rules.specs.Call.{call};
+ghost use Rattle.rules.specs.Call.{call, answered, roomFor};
 ghost use Rattle.rules.specs.Sessions.{session};
-ghost use Rattle.drive.specs.Stepping.{state, left};
+ghost use Rattle.drive.specs.Acting.{state, outcome, Ready};
 
+mod act;
+mod admit;
 mod answers;
 mod boot;
-mod frame;
 mod io;
 mod keys;
-mod line;
+mod lines;
 mod running;
 
-use rules::ANSWER;
 use rules::Answer;
-use rules::Cache;
-use rules::Drive;
+use rules::CACHE_SIZE;
+use rules::FRAME_MOST;
 use rules::NAMESPACES;
 use rules::Refusal;
-use rules::STORE;
+use rules::Registers;
+use rules::STORE_SIZE;
 
-// An answer, and the small state after it.
+// An answer, and the registers after it.
 pub struct Answered {
     pub answer: Answer,
-    pub drive: Drive,
+    pub registers: Registers,
 }
 
-// What a call for one line leaves beside the stores: its answer, the small state, the bytes written.
-pub struct Called {
+// What a call for one line hands back: its answer, the registers, the bytes written.
+pub struct Reply {
     pub answer: Answer,
-    pub drive: Drive,
+    pub registers: Registers,
+    pub bytes: usize,
+}
+
+// What a session hands back: 0000 or the number that refused it, the registers, lines answered, bytes written.
+pub struct SessionReply {
+    pub result: Answer,
+    pub registers: Registers,
+    pub lines: usize,
     pub bytes: usize,
 }
 
@@ -55,109 +66,102 @@ pub(crate) enum Reach {
     Refused(Refusal),
 }
 
-// Starts a fresh drive: no keys, and a store of the right size zeroed. Another store stays as it is.
-pub fn start(keys: &mut Cache, marks: &mut [u8]) -> Answered
-    ensures { λ r. ⌜ left r (now (keys .exit)) (now (marks .exit)) ≡ started (now (marks .entry)) ⌝ }
+// Whether a call goes on to its lines.
+pub(crate) enum Admission {
+    Open,
+    Refused(Refusal),
+}
+
+// Starts a fresh drive: a cache of the right length emptied, and then a store of the right length zeroed. What has another length stays.
+pub fn start(keys: &mut [u8], marks: &mut [u8]) -> Answered
+    ensures { λ r. ⌜ outcome r (now (keys .exit)) (now (marks .exit)) ≡ started (now (keys .entry)) (now (marks .entry)) ⌝ }
 {
     slots::clear_all(keys);
     let counts = [0u8; NAMESPACES];
     let locks = locks::both_locked();
-    let drive = Drive { counts, locks };
-    if marks.len() != STORE {
-        return answers::refused(drive, Refusal::WrongStore);
+    let registers = Registers { counts, locks };
+    if marks.len() != STORE_SIZE {
+        return answers::refused(registers, Refusal::WrongStore);
+    }
+    if keys.len() != CACHE_SIZE {
+        return answers::refused(registers, Refusal::UnsoundState);
     }
     cells::fill_zero(marks);
-    answers::done(drive)
+    answers::done(registers)
 }
 
-fn unanswered(drive: Drive, r: Refusal) -> Called
-    ensures { λ c. ⌜ c ≡ record { answer = Answer.Refused r; drive = drive; bytes = 0 } ⌝ }
+// A line on a drive that was found ready, with room for its answer. Its frame is wiped before anything is handed back.
+fn on_ready(
+    registers: Registers,
+    keys: &mut [u8],
+    marks: &mut [u8],
+    line: &[u8],
+    out: &mut [u8],
+) -> Reply
+    requires { ⌜ Ready registers (now keys) (now marks) × (roomFor (now line) ≤ length (now out)) ⌝ }
+    ensures { λ r. ⌜ record { answer = r .answer; state = state (r .registers) (now (keys .exit)) (now (marks .exit)); bytes = r .bytes; out = now (out .exit) }
+        ≡ answered (state registers (now (keys .entry)) (now (marks .entry))) (now (line .entry)) (now (out .entry)) ⌝ }
 {
-    let answer = Answer::Refused(r);
-    Called {
+    let mut frame = [0u8; FRAME_MOST];
+    let told = act::on_line(registers, keys, marks, line, &mut frame);
+    act::wipe(&mut frame);
+    let answer = told.answer;
+    let registers = told.registers;
+    let bytes = digits::write_answer(answer, out);
+    Reply {
         answer,
-        drive,
-        bytes: 0,
+        registers,
+        bytes,
     }
 }
 
 // One call for one line: 07 0F, 07 0D, 07 0E, then the line. The answer's line goes to the front of the output.
 pub fn answer_line(
-    drive: Drive,
-    keys: &mut Cache,
+    registers: Registers,
+    keys: &mut [u8],
     marks: &mut [u8],
     line: &[u8],
     out: &mut [u8],
-) -> Called
-    ensures { λ r. ⌜ record { answer = r .answer; state = state (r .drive) (now (keys .exit)) (now (marks .exit)); bytes = r .bytes; out = now (out .exit) } ≡ call (state drive (now (keys .entry)) (now (marks .entry))) (now (line .entry)) (now (out .entry)) ⌝ }
+) -> Reply
+    ensures { λ r. ⌜ record { answer = r .answer; state = state (r .registers) (now (keys .exit)) (now (marks .exit)); bytes = r .bytes; out = now (out .exit) }
+        ≡ call (state registers (now (keys .entry)) (now (marks .entry))) (now (line .entry)) (now (out .entry)) ⌝ }
 {
-    if out.len() < ANSWER {
-        return unanswered(drive, Refusal::OutputTooShort);
-    }
-    if marks.len() != STORE {
-        return unanswered(drive, Refusal::WrongStore);
-    }
-    if slots::unsound(drive, keys) {
-        return unanswered(drive, Refusal::UnsoundState);
-    }
-    let left = line::on_line(drive, keys, marks, line);
-    let answer = left.answer;
-    let drive = left.drive;
-    let bytes = digits::write_answer(answer, out);
-    Called {
-        answer,
-        drive,
-        bytes,
-    }
-}
-
-// What a session leaves beside the stores: 0000 or the number that refused it, the small state, lines answered, bytes written.
-pub struct Session {
-    pub result: Answer,
-    pub drive: Drive,
-    pub lines: usize,
-    pub bytes: usize,
-}
-
-fn no_session(drive: Drive, r: Refusal) -> Session
-    ensures { λ x. ⌜ x ≡ record { result = Answer.Refused r; drive = drive; lines = 0; bytes = 0 } ⌝ }
-{
-    let result = Answer::Refused(r);
-    Session {
-        result,
-        drive,
-        lines: 0,
-        bytes: 0,
+    let short = out.len() < lines::room_for(line);
+    match admit::admit(short, registers, keys, marks) {
+        Admission::Refused(r) => Reply {
+            answer: Answer::Refused(r),
+            registers,
+            bytes: 0,
+        },
+        Admission::Open => on_ready(registers, keys, marks, line, out),
     }
 }
 
 // A whole session: room for all its lines, the store and soundness are judged once.
 pub fn answer_session(
-    drive: Drive,
-    keys: &mut Cache,
+    registers: Registers,
+    keys: &mut [u8],
     marks: &mut [u8],
     text: &[u8],
     out: &mut [u8],
-) -> Session
-    ensures { λ r. ⌜ record { result = r .result; state = state (r .drive) (now (keys .exit)) (now (marks .exit)); lines = r .lines; bytes = r .bytes; out = now (out .exit) } ≡ session (state drive (now (keys .entry)) (now (marks .entry))) (now (text .entry)) (now (out .entry)) ⌝ }
+) -> SessionReply
+    ensures { λ r. ⌜ record {
+      result = r .result;
+      state = state (r .registers) (now (keys .exit)) (now (marks .exit));
+      lines = r .lines;
+      bytes = r .bytes;
+      out = now (out .exit);
+    }
+        ≡ session (state registers (now (keys .entry)) (now (marks .entry))) (now (text .entry)) (now (out .entry)) ⌝ }
 {
-    let n = running::count_lines(text);
-    if out.len() / ANSWER < n {
-        return no_session(drive, Refusal::OutputTooShort);
-    }
-    if marks.len() != STORE {
-        return no_session(drive, Refusal::WrongStore);
-    }
-    if slots::unsound(drive, keys) {
-        return no_session(drive, Refusal::UnsoundState);
-    }
-    let run = running::run(drive, keys, marks, text, out);
-    let drive = run.drive;
-    let result = Answer::Done;
-    Session {
-        result,
-        drive,
-        lines: run.lines,
-        bytes: run.bytes,
+    let short = lines::need_more_than(text, out.len());
+    match admit::admit(short, registers, keys, marks) {
+        Admission::Refused(r) => SessionReply {
+            result: Answer::Refused(r),
+            registers,
+            lines: 0,
+            bytes: 0,
+        },
+        Admission::Open => running::run(registers, keys, marks, text, out),
     }
 }

@@ -13,7 +13,7 @@ use Rattle.rules.specs.declared.Lock.the-variants.{WriteUnlocked, WriteLocked, 
 use Rattle.rules.specs.declared.BootLocks.{BootLocks}
 use Rattle.rules.specs.declared.Answer.the-variants.{Done, Refused}
 use Rattle.rules.specs.Answers.{00·02, 01·0E}
-use Rattle.rules.specs.FrameLine.{bits}
+use Rattle.rules.specs.Fields.{bits}
 use Rattle.rules.specs.Locks.{lockValue, field0, field1, invalidFields, asked, asksHeld, notChangeable, changed}
 use Rattle.locks.specs.Deciding.{decided}
 
@@ -36,7 +36,8 @@ invalid-masks d h =
     let e : bits 31 6 d ≡ d / 64 = omega arith in
     rw (field0-mask d, field1-mask d, e)
 
-pub held-masks : (locks : BootLocks) (d : ℕ) → notChangeable locks d ≡ asksHeld (locks .partition0) (bitAnd d 7) || asksHeld (locks .partition1) (bitAnd (d / 8) 7)
+pub held-masks : (locks : BootLocks) (d : ℕ)
+    → notChangeable locks d ≡ asksHeld (locks .partition0) (bitAnd d 7) || asksHeld (locks .partition1) (bitAnd (d / 8) 7)
 held-masks locks d = rw (field0-mask d, field1-mask d)
 
 -- ------------------------------------------------------------------------

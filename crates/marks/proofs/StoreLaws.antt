@@ -11,9 +11,9 @@ use native.Mathlib.Omega.{arith}
 use native.Mathlib.Numerals.{add-one}
 use lib.ListN.{length, take, drop, drop-of-length-le}
 use Rattle.cells.specs.Cells.{part, write, copies, cell, put, fill}
-use Rattle.cells.specs.Tests.{someCell}
+use Rattle.cells.specs.Predicates.{someCell}
 use Rattle.cells.proofs.CellsLaws.{apart, cell-at, back, part-part, cell-copies, length-fill, fill-none, fill-next}
-use Rattle.cells.proofs.TestsLaws.{none-then, then-none, false-or-true}
+use Rattle.cells.proofs.PredicatesLaws.{none-then, then-none, false-or-true}
 
 -- ------------------------------------------------------------------------
 -- Runs of one cell's bytes
@@ -64,7 +64,8 @@ unfolding cell
 none-of-copies w i n f v xs fits full not-so e =
     then-none w f n i xs (λ k l.
     let room : i * w + n * w ≤ length xs = omega (arith, cell-at w i n) in
-    let is : cell w (i + k) xs ≡ v = (rw (cell-at w i k)) ∙ sym (part-part (i * w) (n * w) (k * w) w xs room (apart w k n l)) ∙ ap (part (k * w) w) e ∙ cell-copies w n k v full l in
+    let inner = sym (part-part (i * w) (n * w) (k * w) w xs room (apart w k n l)) in
+    let is : cell w (i + k) xs ≡ v = (rw (cell-at w i k)) ∙ inner ∙ ap (part (k * w) w) e ∙ cell-copies w n k v full l in
     rw is (not-so (i + k)))
 
 module _ (w : ℕ) (f : ℕ → List ℕ → Bool) (xs : List ℕ) where

@@ -7,7 +7,7 @@ use Prim.Native.Nat.{ℕ, _-_}
 use lib.ListN.{length}
 use lib.Dec.{eqb, leb}
 use Rattle.cells.specs.Cells.{fill}
-use Rattle.cells.specs.Tests.{someCell}
+use Rattle.cells.specs.Predicates.{someCell}
 use Rattle.rules.specs.declared.Namespace.{Namespace}
 use Rattle.rules.specs.Numbers.{blocksEach, markWidth, markPlaces, storeSize}
 use Rattle.rules.specs.State.{noNamespace}

@@ -1,38 +1,38 @@
-// The mark store, lent by the caller at any length: a block's mark is the MARK bytes from block * MARK. Every public function is total.
+// The mark store, lent by the caller at any length: a block's mark is the MARK_WIDTH bytes from block * MARK_WIDTH. Every public function is total.
 ghost use mathlib.Core.Path.{_≡_};
 ghost use Prim.Native.Nat.{_+_, _*_, _≤_, _<_};
 ghost use lib.ListN.{length};
 ghost use Rattle.cells.specs.Cells.{cell, copies, fill};
-ghost use Rattle.cells.specs.Tests.{someCell};
+ghost use Rattle.cells.specs.Predicates.{someCell};
 ghost use Rattle.rules.specs.Numbers.{markWidth, markPlaces, storeSize};
 ghost use Rattle.rules.specs.Marks.{differs};
-ghost use Rattle.marks.specs.Steps.{run};
+ghost use Rattle.marks.specs.Runs.{run};
 ghost use Rattle.marks.specs.Store.{someDiffers, marked, zeroed};
-use rules::BLOCKS;
-use rules::MARK;
-use rules::MARKS;
+use rules::BLOCKS_EACH;
+use rules::MARK_PLACES;
+use rules::MARK_WIDTH;
 use rules::NAMESPACES;
 use rules::Namespace;
-use rules::STORE;
+use rules::STORE_SIZE;
 
 // So many marks are set, or compared, in one step, by a pattern that is the identity for each.
-const RUN: usize = 16;
+const RUN_MARKS: usize = 16;
 
-const PATTERN: usize = RUN * MARK;
+const PATTERN_SIZE: usize = RUN_MARKS * MARK_WIDTH;
 
 // From so many marks on, to make the pattern pays for setting them.
-const LONG: usize = 4 * RUN;
+const LONG_MARKS: usize = 4 * RUN_MARKS;
 
 // Whether the block has been written and its mark differs from this identity.
 fn mark_differs(marks: &[u8], block: usize, identity: &[u8]) -> bool
     requires { ⌜ (length (now marks) ≡ storeSize) × (block < markPlaces) ⌝ }
     ensures { λ r. ⌜ r ≡ differs (now (identity .entry)) (cell markWidth block (now (marks .entry))) ⌝ }
 {
-    let a = block * MARK;
+    let a = block * MARK_WIDTH;
     if marks[a] == 0 {
         return false;
     }
-    !cells::same_part(marks, a, MARK, identity)
+    !cells::same_part(marks, a, MARK_WIDTH, identity)
 }
 
 // Whether one of the n blocks from first differs, block by block.
@@ -53,13 +53,14 @@ fn differs_each(marks: &[u8], first: usize, n: usize, identity: &[u8]) -> bool
 
 // Whether one of a run's blocks differs. The pattern is the identity for each of them: a run that equals it has none that does.
 fn differs_in_run(marks: &[u8], first: usize, identity: &[u8], pattern: &[u8]) -> bool
-    requires { ⌜ (length (now marks) ≡ storeSize) × (first + run ≤ markPlaces) × (length (now identity) ≡ markWidth) × (now pattern ≡ copies run (now identity)) ⌝ }
+    requires { ⌜ (length (now marks) ≡ storeSize) × (first + run ≤ markPlaces) × (length (now identity) ≡ markWidth) × (now pattern
+        ≡ copies run (now identity)) ⌝ }
     ensures { λ r. ⌜ r ≡ someCell markWidth first run (λ block m. differs (now (identity .entry)) m) (now (marks .entry)) ⌝ }
 {
-    if cells::same_part(marks, first * MARK, PATTERN, pattern) {
+    if cells::same_part(marks, first * MARK_WIDTH, PATTERN_SIZE, pattern) {
         return false;
     }
-    differs_each(marks, first, RUN, identity)
+    differs_each(marks, first, RUN_MARKS, identity)
 }
 
 // Whether one of the n blocks from first differs, run by run, and the rest block by block.
@@ -67,15 +68,15 @@ fn differs_by_runs(marks: &[u8], first: usize, n: usize, identity: &[u8]) -> boo
     requires { ⌜ (length (now marks) ≡ storeSize) × (first + n ≤ markPlaces) × (length (now identity) ≡ markWidth) ⌝ }
     ensures { λ r. ⌜ r ≡ someCell markWidth first n (λ block m. differs (now (identity .entry)) m) (now (marks .entry)) ⌝ }
 {
-    let mut pattern = [0u8; PATTERN];
-    mark_each(&mut pattern, 0, RUN, identity);
+    let mut pattern = [0u8; PATTERN_SIZE];
+    mark_each(&mut pattern, 0, RUN_MARKS, identity);
     let mut k = 0;
-    while RUN <= n - k {
+    while RUN_MARKS <= n - k {
         let block = first + k;
         if differs_in_run(marks, block, identity, &pattern) {
             return true;
         }
-        k += RUN;
+        k += RUN_MARKS;
     }
     let block = first + k;
     differs_each(marks, block, n - k, identity)
@@ -85,10 +86,10 @@ fn differs_from(marks: &[u8], first: usize, n: usize, identity: &[u8]) -> bool
     requires { ⌜ (length (now marks) ≡ storeSize) × (first + n ≤ markPlaces) ⌝ }
     ensures { λ r. ⌜ r ≡ someCell markWidth first n (λ block m. differs (now (identity .entry)) m) (now (marks .entry)) ⌝ }
 {
-    if n < RUN {
+    if n < RUN_MARKS {
         return differs_each(marks, first, n, identity);
     }
-    if identity.len() != MARK {
+    if identity.len() != MARK_WIDTH {
         return differs_each(marks, first, n, identity);
     }
     differs_by_runs(marks, first, n, identity)
@@ -98,13 +99,13 @@ fn differs_from(marks: &[u8], first: usize, n: usize, identity: &[u8]) -> bool
 pub fn some_differs(marks: &[u8], first: usize, n: usize, identity: &[u8]) -> bool
     ensures { λ r. ⌜ r ≡ someDiffers first n (now (identity .entry)) (now (marks .entry)) ⌝ }
 {
-    if marks.len() != STORE {
+    if marks.len() != STORE_SIZE {
         return false;
     }
-    if first > MARKS {
+    if first > MARK_PLACES {
         return false;
     }
-    if n > MARKS - first {
+    if n > MARK_PLACES - first {
         return false;
     }
     differs_from(marks, first, n, identity)
@@ -115,12 +116,12 @@ fn mark_each(marks: &mut [u8], first: usize, n: usize, identity: &[u8])
     requires { ⌜ ((first + n) * markWidth ≤ length (now marks)) × (length (now identity) ≡ markWidth) ⌝ }
     ensures { λ _. ⌜ now (marks .exit) ≡ fill markWidth first n (now (identity .entry)) (now (marks .entry)) ⌝ }
 {
-    let mut own = [0u8; MARK];
+    let mut own = [0u8; MARK_WIDTH];
     cells::copy(&mut own, identity);
     let mut k = 0;
     while k < n {
-        let a = (first + k) * MARK;
-        let e = a + MARK;
+        let a = (first + k) * MARK_WIDTH;
+        let e = a + MARK_WIDTH;
         cells::copy(&mut marks[a..e], &own);
         k += 1;
     }
@@ -131,15 +132,15 @@ fn mark_by_runs(marks: &mut [u8], first: usize, n: usize, identity: &[u8])
     requires { ⌜ ((first + n) * markWidth ≤ length (now marks)) × (length (now identity) ≡ markWidth) ⌝ }
     ensures { λ _. ⌜ now (marks .exit) ≡ fill markWidth first n (now (identity .entry)) (now (marks .entry)) ⌝ }
 {
-    let mut pattern = [0u8; PATTERN];
-    mark_each(&mut pattern, 0, RUN, identity);
+    let mut pattern = [0u8; PATTERN_SIZE];
+    mark_each(&mut pattern, 0, RUN_MARKS, identity);
     let mut k = 0;
-    while RUN <= n - k {
+    while RUN_MARKS <= n - k {
         let block = first + k;
-        let a = block * MARK;
-        let e = a + PATTERN;
+        let a = block * MARK_WIDTH;
+        let e = a + PATTERN_SIZE;
         cells::copy(&mut marks[a..e], &pattern);
-        k += RUN;
+        k += RUN_MARKS;
     }
     let block = first + k;
     mark_each(marks, block, n - k, identity);
@@ -149,7 +150,7 @@ fn mark_from(marks: &mut [u8], first: usize, n: usize, identity: &[u8])
     requires { ⌜ ((first + n) * markWidth ≤ length (now marks)) × (length (now identity) ≡ markWidth) ⌝ }
     ensures { λ _. ⌜ now (marks .exit) ≡ fill markWidth first n (now (identity .entry)) (now (marks .entry)) ⌝ }
 {
-    if n < LONG {
+    if n < LONG_MARKS {
         mark_each(marks, first, n, identity);
         return;
     }
@@ -160,16 +161,16 @@ fn mark_from(marks: &mut [u8], first: usize, n: usize, identity: &[u8])
 pub fn mark(marks: &mut [u8], first: usize, n: usize, identity: &[u8])
     ensures { λ _. ⌜ now (marks .exit) ≡ marked first n (now (identity .entry)) (now (marks .entry)) ⌝ }
 {
-    if marks.len() != STORE {
+    if marks.len() != STORE_SIZE {
         return;
     }
-    if first > MARKS {
+    if first > MARK_PLACES {
         return;
     }
-    if n > MARKS - first {
+    if n > MARK_PLACES - first {
         return;
     }
-    if identity.len() != MARK {
+    if identity.len() != MARK_WIDTH {
         return;
     }
     mark_from(marks, first, n, identity);
@@ -179,7 +180,7 @@ pub fn mark(marks: &mut [u8], first: usize, n: usize, identity: &[u8])
 pub fn zero_namespace(marks: &mut [u8], ns: Namespace)
     ensures { λ _. ⌜ now (marks .exit) ≡ zeroed ns (now (marks .entry)) ⌝ }
 {
-    if marks.len() != STORE {
+    if marks.len() != STORE_SIZE {
         return;
     }
     let n = ns.0 as usize;
@@ -189,6 +190,6 @@ pub fn zero_namespace(marks: &mut [u8], ns: Namespace)
     if n > NAMESPACES {
         return;
     }
-    let first = (n - 1) * BLOCKS;
-    cells::zero_part(marks, first * MARK, BLOCKS * MARK);
+    let first = (n - 1) * BLOCKS_EACH;
+    cells::zero_part(marks, first * MARK_WIDTH, BLOCKS_EACH * MARK_WIDTH);
 }

@@ -9,6 +9,7 @@ use Rattle.cells.proofs.same_part.Met as cells-same-part
 use Rattle.digits.proofs.read_line.Met as digits-read-line
 use Rattle.digits.proofs.number.Met as digits-number
 use Rattle.digits.proofs.write_answer.Met as digits-write-answer
+use Rattle.frames.proofs.read.Met as frames-read
 use Rattle.slots.proofs.loaded.Met as slots-loaded
 use Rattle.slots.proofs.holds_uid.Met as slots-holds-uid
 use Rattle.slots.proofs.other_key.Met as slots-other-key
@@ -36,100 +37,39 @@ use Rattle.tuffaleen_c.proofs.tuffaleen_session.Met as tuffaleen-c-session
 use Rattle.promises.specs.Defined.{Defined}
 
 pub defined : {M : Type 1} → Defined M
-defined = (
-  cells-fill-zero.met,
-  (
-    cells-copy.met,
-    (
-      cells-equal.met,
-      (
-        cells-all-zero.met,
-        (
-          cells-zero-part.met,
-          (
-            cells-same-part.met,
-            (
-              digits-read-line.met,
-              (
-                digits-number.met,
-                (
-                  digits-write-answer.met,
-                  (
-                    slots-loaded.met,
-                    (
-                      slots-holds-uid.met,
-                      (
-                        slots-other-key.met,
-                        (
-                          slots-unsound.met,
-                          (
-                            slots-store.met,
-                            (
-                              slots-clear.met,
-                              (
-                                slots-clear-namespace.met,
-                                (
-                                  slots-clear-all.met,
-                                  (
-                                    marks-some-differs.met,
-                                    (
-                                      marks-mark.met,
-                                      (
-                                        marks-zero-namespace.met,
-                                        (
-                                          locks-decide.met,
-                                          (
-                                            locks-shown.met,
-                                            (
-                                              locks-lock-value.met,
-                                              (
-                                                locks-boot-write.met,
-                                                (
-                                                  locks-both-locked.met,
-                                                  (
-                                                    locks-set-locks.met,
-                                                    (
-                                                      locks-set-features.met,
-                                                      (
-                                                        drive-start.met,
-                                                        (
-                                                          drive-answer-line.met,
-                                                          (
-                                                            drive-answer-session.met,
-                                                            (
-                                                              tuffaleen-c-start.met,
-                                                              (
-                                                                tuffaleen-c-line.met,
-                                                                tuffaleen-c-session.met,
-                                                              ),
-                                                            ),
-                                                          ),
-                                                        ),
-                                                      ),
-                                                    ),
-                                                  ),
-                                                ),
-                                              ),
-                                            ),
-                                          ),
-                                        ),
-                                      ),
-                                    ),
-                                  ),
-                                ),
-                              ),
-                            ),
-                          ),
-                        ),
-                      ),
-                    ),
-                  ),
-                ),
-              ),
-            ),
-          ),
-        ),
-      ),
-    ),
-  ),
-)
+defined = record {
+  cells-fill-zero-ends = cells-fill-zero.met;
+  cells-copy-ends = cells-copy.met;
+  cells-equal-ends = cells-equal.met;
+  cells-all-zero-ends = cells-all-zero.met;
+  cells-zero-part-ends = cells-zero-part.met;
+  cells-same-part-ends = cells-same-part.met;
+  digits-read-line-ends = digits-read-line.met;
+  digits-number-ends = digits-number.met;
+  digits-write-answer-ends = digits-write-answer.met;
+  frames-read-ends = frames-read.met;
+  slots-loaded-ends = slots-loaded.met;
+  slots-holds-uid-ends = slots-holds-uid.met;
+  slots-other-key-ends = slots-other-key.met;
+  slots-unsound-ends = slots-unsound.met;
+  slots-store-ends = slots-store.met;
+  slots-clear-ends = slots-clear.met;
+  slots-clear-namespace-ends = slots-clear-namespace.met;
+  slots-clear-all-ends = slots-clear-all.met;
+  marks-some-differs-ends = marks-some-differs.met;
+  marks-mark-ends = marks-mark.met;
+  marks-zero-namespace-ends = marks-zero-namespace.met;
+  locks-decide-ends = locks-decide.met;
+  locks-shown-ends = locks-shown.met;
+  locks-lock-value-ends = locks-lock-value.met;
+  locks-boot-write-ends = locks-boot-write.met;
+  locks-both-locked-ends = locks-both-locked.met;
+  locks-set-locks-ends = locks-set-locks.met;
+  locks-set-features-ends = locks-set-features.met;
+  drive-start-ends = drive-start.met;
+  drive-answer-line-ends = drive-answer-line.met;
+  drive-answer-session-ends = drive-answer-session.met;
+  tuffaleen-c-start-ends = tuffaleen-c-start.met;
+  tuffaleen-c-line-ends = tuffaleen-c-line.met;
+  tuffaleen-c-session-ends = tuffaleen-c-session.met;
+}

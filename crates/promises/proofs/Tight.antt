@@ -13,10 +13,21 @@ use Rattle.rules.specs.Call.{Called as CallLeft}
 use Rattle.rules.specs.Sessions.{Session as SessionLeft}
 use Rattle.digits.specs.Digits.{ReadInto, Wrote}
 use Rattle.drive.specs.declared.Answered.{Answered}
-use Rattle.drive.specs.declared.Called.{Called}
-use Rattle.drive.specs.declared.Session.{Session}
+use Rattle.drive.specs.declared.Reply.{Reply}
+use Rattle.drive.specs.declared.SessionReply.{SessionReply}
+use Rattle.frames.specs.Reading.{ReadFrom}
 use Rattle.tuffaleen_c.specs.Image.{CStarted, CCalled, CSession}
-use Rattle.promises.specs.Tight.{Tight-tuffaleen-c-start, Tight-tuffaleen-c-line, Tight-tuffaleen-c-session, Tight-cells-fill-zero, Tight-cells-copy, Tight-cells-equal, Tight-cells-all-zero, Tight-cells-zero-part, Tight-cells-same-part, Tight-digits-read-line, Tight-digits-number, Tight-digits-write-answer, Tight-slots-loaded, Tight-slots-holds-uid, Tight-slots-other-key, Tight-slots-unsound, Tight-slots-store, Tight-slots-clear, Tight-slots-clear-namespace, Tight-slots-clear-all, Tight-marks-some-differs, Tight-marks-mark, Tight-marks-zero-namespace, Tight-locks-decide, Tight-locks-shown, Tight-locks-lock-value, Tight-locks-boot-write, Tight-locks-both-locked, Tight-locks-set-features, Tight-locks-set-locks, Tight-drive-start, Tight-drive-answer-line, Tight-drive-answer-session}
+use Rattle.promises.specs.Tight.{Tight-tuffaleen-c-start, Tight-tuffaleen-c-line, Tight-tuffaleen-c-session}
+use Rattle.promises.specs.Tight.{Tight-cells-fill-zero, Tight-cells-copy, Tight-cells-equal, Tight-cells-all-zero, Tight-cells-zero-part}
+use Rattle.promises.specs.Tight.{Tight-cells-same-part}
+use Rattle.promises.specs.Tight.{Tight-digits-read-line, Tight-digits-number, Tight-digits-write-answer}
+use Rattle.promises.specs.Tight.{Tight-slots-loaded, Tight-slots-holds-uid, Tight-slots-other-key, Tight-slots-unsound, Tight-slots-store}
+use Rattle.promises.specs.Tight.{Tight-slots-clear, Tight-slots-clear-namespace, Tight-slots-clear-all}
+use Rattle.promises.specs.Tight.{Tight-marks-some-differs, Tight-marks-mark, Tight-marks-zero-namespace}
+use Rattle.promises.specs.Tight.{Tight-locks-decide, Tight-locks-shown, Tight-locks-lock-value, Tight-locks-boot-write, Tight-locks-both-locked}
+use Rattle.promises.specs.Tight.{Tight-locks-set-features, Tight-locks-set-locks}
+use Rattle.promises.specs.Tight.{Tight-drive-start, Tight-drive-answer-line, Tight-drive-answer-session}
+use Rattle.promises.specs.Tight.{Tight-frames-read}
 
 -- the law: what two outcomes both equal, they share
 one : {A : Type 0} {x y z : A} → x ≡ z → y ≡ z → x ≡ y
@@ -49,6 +60,9 @@ tight-digits-number = (λ κs args. tt, λ κs args r r′ e e′ p q. one p q)
 pub tight-digits-write-answer : Tight-digits-write-answer
 tight-digits-write-answer = (λ κs args. tt, λ κs args r r′ e e′ p q. ap (λ (w : Wrote). (w .bytes, w .out)) (one p q))
 
+pub tight-frames-read : Tight-frames-read
+tight-frames-read = (λ κs args. tt, λ κs args r r′ e e′ p q. ap (λ (w : ReadFrom). (w .read, w .frame)) (one p q))
+
 pub tight-slots-loaded : Tight-slots-loaded
 tight-slots-loaded = (λ κs args. tt, λ κs args r r′ e e′ p q. one p q)
 
@@ -56,10 +70,10 @@ pub tight-slots-holds-uid : Tight-slots-holds-uid
 tight-slots-holds-uid = (λ κs args. tt, λ κs args r r′ e e′ p q. one p q)
 
 pub tight-slots-other-key : Tight-slots-other-key
-tight-slots-other-key = (λ κs args. tt, λ κs args r r′ e e′ p q. one (p .0) (q .0))
+tight-slots-other-key = (λ κs args. tt, λ κs args r r′ e e′ p q. one p q)
 
 pub tight-slots-unsound : Tight-slots-unsound
-tight-slots-unsound = (λ κs args. tt, λ κs args r r′ e e′ p q. one (p .0) (q .0))
+tight-slots-unsound = (λ κs args. tt, λ κs args r r′ e e′ p q. one p q)
 
 pub tight-slots-store : Tight-slots-store
 tight-slots-store = (λ κs args. tt, λ κs args r r′ e e′ p q. one p q)
@@ -71,7 +85,7 @@ pub tight-slots-clear-namespace : Tight-slots-clear-namespace
 tight-slots-clear-namespace = (λ κs args. tt, λ κs args r r′ e e′ p q. one p q)
 
 pub tight-slots-clear-all : Tight-slots-clear-all
-tight-slots-clear-all = (λ κs args. tt, λ κs args r r′ e e′ p q. one (p .0) (q .0))
+tight-slots-clear-all = (λ κs args. tt, λ κs args r r′ e e′ p q. one p q)
 
 pub tight-marks-some-differs : Tight-marks-some-differs
 tight-marks-some-differs = (λ κs args. tt, λ κs args r r′ e e′ p q. one p q)
@@ -98,8 +112,11 @@ pub tight-locks-both-locked : Tight-locks-both-locked
 tight-locks-both-locked = (λ κs args. tt, λ κs args r r′ e e′ p q. one p q)
 
 pub tight-locks-set-locks : Tight-locks-set-locks
-tight-locks-set-locks w κs args =
-    (id⊢ (w .𝓤) (emp (w .𝓤)), λ r r′ e e′. fact-use (w .𝓤) _ (conjL (w .𝓤) _ _) (λ p. fact-use (w .𝓤) _ (conjR (w .𝓤) _ _) (λ q. factI (w .𝓤) _ _ (same (one (p .0) (q .0)) (one (p .1) (q .1))))))
+tight-locks-set-locks w κs args = (
+  id⊢ (w .𝓤) (emp (w .𝓤)),
+  λ r r′ e e′. fact-use (w .𝓤) _ (conjL (w .𝓤) _ _) (λ p. fact-use (w .𝓤) _ (conjR (w .𝓤) _ _)
+      (λ q. factI (w .𝓤) _ _ (same (one (p .0) (q .0)) (one (p .1) (q .1))))),
+)
   where
     same : {a a′ : Answer} {b b′ : BootLocks} → a ≡ a′ → b ≡ b′ → _≡_ {A = Answer × BootLocks} (a, b) (a′, b′)
     same p q = cc
@@ -108,13 +125,14 @@ pub tight-locks-set-features : Tight-locks-set-features
 tight-locks-set-features = (λ κs args. tt, λ κs args r r′ e e′ p q. one p q)
 
 abbrev startLeft : Outcome → Answered × (List ℕ × List ℕ)
-startLeft o = (record { answer = o .answer; drive = o .state .drive }, (o .state .keys, o .state .marks))
+startLeft o = (record { answer = o .answer; registers = o .state .registers }, (o .state .keys, o .state .marks))
 
-abbrev callLeft : CallLeft → Called × (List ℕ × (List ℕ × List ℕ))
-callLeft c = (record { answer = c .answer; drive = c .state .drive; bytes = c .bytes }, (c .state .keys, (c .state .marks, c .out)))
+abbrev callLeft : CallLeft → Reply × (List ℕ × (List ℕ × List ℕ))
+callLeft c = (record { answer = c .answer; registers = c .state .registers; bytes = c .bytes }, (c .state .keys, (c .state .marks, c .out)))
 
-abbrev sessionLeft : SessionLeft → Session × (List ℕ × (List ℕ × List ℕ))
-sessionLeft c = (record { result = c .result; drive = c .state .drive; lines = c .lines; bytes = c .bytes }, (c .state .keys, (c .state .marks, c .out)))
+abbrev sessionLeft : SessionLeft → SessionReply × (List ℕ × (List ℕ × List ℕ))
+sessionLeft c =
+    (record { result = c .result; registers = c .state .registers; lines = c .lines; bytes = c .bytes }, (c .state .keys, (c .state .marks, c .out)))
 
 pub tight-drive-start : Tight-drive-start
 tight-drive-start = (λ κs args. tt, λ κs args r r′ e e′ p q. ap startLeft (one p q))
@@ -132,4 +150,5 @@ pub tight-tuffaleen-c-line : Tight-tuffaleen-c-line
 tight-tuffaleen-c-line = (λ κs args. tt, λ κs args r r′ e e′ p q. ap (λ (c : CCalled). (c .number, (c .image, (c .marks, (c .out, c .bytes))))) (one p q))
 
 pub tight-tuffaleen-c-session : Tight-tuffaleen-c-session
-tight-tuffaleen-c-session = (λ κs args. tt, λ κs args r r′ e e′ p q. ap (λ (c : CSession). (c .number, (c .image, (c .marks, (c .out, (c .lines, c .bytes)))))) (one p q))
+tight-tuffaleen-c-session =
+    (λ κs args. tt, λ κs args r r′ e e′ p q. ap (λ (c : CSession). (c .number, (c .image, (c .marks, (c .out, (c .lines, c .bytes)))))) (one p q))

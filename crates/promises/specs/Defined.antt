@@ -10,6 +10,7 @@ use Rattle.cells.proofs.same_part.Statement as cells-same-part
 use Rattle.digits.proofs.read_line.Statement as digits-read-line
 use Rattle.digits.proofs.number.Statement as digits-number
 use Rattle.digits.proofs.write_answer.Statement as digits-write-answer
+use Rattle.frames.proofs.read.Statement as frames-read
 use Rattle.slots.proofs.loaded.Statement as slots-loaded
 use Rattle.slots.proofs.holds_uid.Statement as slots-holds-uid
 use Rattle.slots.proofs.other_key.Statement as slots-other-key
@@ -36,38 +37,38 @@ use Rattle.tuffaleen_c.proofs.tuffaleen_line.Statement as tuffaleen-c-line
 use Rattle.tuffaleen_c.proofs.tuffaleen_session.Statement as tuffaleen-c-session
 
 -- Every public function, run on any arguments, ends and leaves what its contract says: its theorem, as the prover states it.
-abbrev pub Defined : Type 1 → Type 2
-Defined M =
-    cells-fill-zero.statement M
-    × (cells-copy.statement M
-    × (cells-equal.statement M
-    × (cells-all-zero.statement M
-    × (cells-zero-part.statement M
-    × (cells-same-part.statement M
-    × (digits-read-line.statement M
-    × (digits-number.statement M
-    × (digits-write-answer.statement M
-    × (slots-loaded.statement M
-    × (slots-holds-uid.statement M
-    × (slots-other-key.statement M
-    × (slots-unsound.statement M
-    × (slots-store.statement M
-    × (slots-clear.statement M
-    × (slots-clear-namespace.statement M
-    × (slots-clear-all.statement M
-    × (marks-some-differs.statement M
-    × (marks-mark.statement M
-    × (marks-zero-namespace.statement M
-    × (locks-decide.statement M
-    × (locks-shown.statement M
-    × (locks-lock-value.statement M
-    × (locks-boot-write.statement M
-    × (locks-both-locked.statement M
-    × (locks-set-locks.statement M
-    × (locks-set-features.statement M
-    × (drive-start.statement M
-    × (drive-answer-line.statement M
-    × (drive-answer-session.statement M
-    × (tuffaleen-c-start.statement M
-    × (tuffaleen-c-line.statement M
-    × tuffaleen-c-session.statement M)))))))))))))))))))))))))))))))
+pub record Defined (M : Type 1) : Type 2 where
+  pub cells-fill-zero-ends : cells-fill-zero.statement M
+  pub cells-copy-ends : cells-copy.statement M
+  pub cells-equal-ends : cells-equal.statement M
+  pub cells-all-zero-ends : cells-all-zero.statement M
+  pub cells-zero-part-ends : cells-zero-part.statement M
+  pub cells-same-part-ends : cells-same-part.statement M
+  pub digits-read-line-ends : digits-read-line.statement M
+  pub digits-number-ends : digits-number.statement M
+  pub digits-write-answer-ends : digits-write-answer.statement M
+  pub frames-read-ends : frames-read.statement M
+  pub slots-loaded-ends : slots-loaded.statement M
+  pub slots-holds-uid-ends : slots-holds-uid.statement M
+  pub slots-other-key-ends : slots-other-key.statement M
+  pub slots-unsound-ends : slots-unsound.statement M
+  pub slots-store-ends : slots-store.statement M
+  pub slots-clear-ends : slots-clear.statement M
+  pub slots-clear-namespace-ends : slots-clear-namespace.statement M
+  pub slots-clear-all-ends : slots-clear-all.statement M
+  pub marks-some-differs-ends : marks-some-differs.statement M
+  pub marks-mark-ends : marks-mark.statement M
+  pub marks-zero-namespace-ends : marks-zero-namespace.statement M
+  pub locks-decide-ends : locks-decide.statement M
+  pub locks-shown-ends : locks-shown.statement M
+  pub locks-lock-value-ends : locks-lock-value.statement M
+  pub locks-boot-write-ends : locks-boot-write.statement M
+  pub locks-both-locked-ends : locks-both-locked.statement M
+  pub locks-set-locks-ends : locks-set-locks.statement M
+  pub locks-set-features-ends : locks-set-features.statement M
+  pub drive-start-ends : drive-start.statement M
+  pub drive-answer-line-ends : drive-answer-line.statement M
+  pub drive-answer-session-ends : drive-answer-session.statement M
+  pub tuffaleen-c-start-ends : tuffaleen-c-start.statement M
+  pub tuffaleen-c-line-ends : tuffaleen-c-line.statement M
+  pub tuffaleen-c-session-ends : tuffaleen-c-session.statement M

@@ -17,9 +17,10 @@ use Rattle.rules.specs.declared.Answer.{Answer}
 use Rattle.rules.specs.declared.BootLocks.{BootLocks}
 use Rattle.rules.specs.declared.LineRead.{LineRead}
 use Rattle.locks.specs.declared.Changed.{Changed}
+use Rattle.frames.specs.declared.FrameRead.{FrameRead}
 use Rattle.drive.specs.declared.Answered.{Answered}
-use Rattle.drive.specs.declared.Called.{Called}
-use Rattle.drive.specs.declared.Session.{Session}
+use Rattle.drive.specs.declared.Reply.{Reply}
+use Rattle.drive.specs.declared.SessionReply.{SessionReply}
 use Rattle.cells.proofs.fill_zero.Reads as cells-fill-zero
 use Rattle.cells.proofs.copy.Reads as cells-copy
 use Rattle.cells.proofs.equal.Reads as cells-equal
@@ -29,6 +30,7 @@ use Rattle.cells.proofs.same_part.Reads as cells-same-part
 use Rattle.digits.proofs.read_line.Reads as digits-read-line
 use Rattle.digits.proofs.number.Reads as digits-number
 use Rattle.digits.proofs.write_answer.Reads as digits-write-answer
+use Rattle.frames.proofs.read.Reads as frames-read
 use Rattle.slots.proofs.loaded.Reads as slots-loaded
 use Rattle.slots.proofs.holds_uid.Reads as slots-holds-uid
 use Rattle.slots.proofs.other_key.Reads as slots-other-key
@@ -54,9 +56,15 @@ use Rattle.tuffaleen_c.proofs.tuffaleen_start.Reads as tuffaleen-c-start
 use Rattle.tuffaleen_c.proofs.tuffaleen_line.Reads as tuffaleen-c-line
 use Rattle.tuffaleen_c.proofs.tuffaleen_session.Reads as tuffaleen-c-session
 
--- A function's contract as its callers know it: `asks` is what they must show of the arguments; `tells` what they learn of the arguments, the result, and what was lent as it is at the exit (exit .0 for the first parameter, exit .1 .0 for the second, and so on). `left` puts together all that a call leaves.
+-- A function's contract as its callers know it: `asks` is what they must show of the arguments; `tells` what they learn of the arguments,
+-- the result, and what was lent as it is at the exit (exit .0 for the first parameter, exit .1 .0 for the second, and so on). `left` puts
+-- together all that a call leaves.
 -- The contract is tight: it asks nothing, and any two outcomes that it allows are the same. (That there is one is Defined.)
-abbrev pub Tight : {Lifetimes : Type 0} {Args Result Exit : Lifetimes → Type 0} {Left : Type 0} → ((κs : Lifetimes) → Args κs → Type 0) → ((κs : Lifetimes) → Args κs → Result κs → Exit κs → Type 0) → ((κs : Lifetimes) → Result κs → Exit κs → Left) → Type 0
+abbrev pub Tight : {Lifetimes : Type 0} {Args Result Exit : Lifetimes → Type 0} {Left : Type 0}
+    → ((κs : Lifetimes) → Args κs → Type 0)
+    → ((κs : Lifetimes) → Args κs → Result κs → Exit κs → Type 0)
+    → ((κs : Lifetimes) → Result κs → Exit κs → Left)
+    → Type 0
 Tight {Lifetimes} {Args} {Result} {Exit} asks tells left =
     ((κs : Lifetimes) (args : Args κs) → asks κs args)
     × ((κs : Lifetimes) (args : Args κs) (result result′ : Result κs) (exit exit′ : Exit κs)
@@ -90,6 +98,9 @@ Tight-digits-number = Tight {Left = ℕ} digits-number.Asked digits-number.Learn
 
 abbrev pub Tight-digits-write-answer : Type 0
 Tight-digits-write-answer = Tight {Left = ℕ × List ℕ} digits-write-answer.Asked digits-write-answer.Learnt (λ κs result exit. (result, now (exit .1 .0)))
+
+abbrev pub Tight-frames-read : Type 0
+Tight-frames-read = Tight {Left = FrameRead × List ℕ} frames-read.Asked frames-read.Learnt (λ κs result exit. (result, now (exit .1 .0)))
 
 abbrev pub Tight-slots-loaded : Type 0
 Tight-slots-loaded = Tight {Left = Bool} slots-loaded.Asked slots-loaded.Learnt (λ κs result exit. result)
@@ -139,7 +150,8 @@ Tight-locks-boot-write = Tight {Left = Answer} locks-boot-write.Asked locks-boot
 abbrev pub Tight-locks-both-locked : Type 0
 Tight-locks-both-locked = Tight {Left = BootLocks} locks-both-locked.Asked locks-both-locked.Learnt (λ κs result exit. result)
 
--- set_locks is lent a struct, so that its callers know its contract as assertions of the program logic: what it requires follows from nothing (`ent emp`), and two of what it ensures together (`conj`) give that the outcomes are the same.
+-- set_locks is lent a struct, so that its callers know its contract as assertions of the program logic: what it requires follows from
+-- nothing (`ent emp`), and two of what it ensures together (`conj`) give that the outcomes are the same.
 abbrev pub Tight-locks-set-locks : Type 2
 Tight-locks-set-locks =
     (w : World) (κs : Lfts 1) (args : ArgsD set-locks.signature κs)
@@ -156,20 +168,32 @@ abbrev pub Tight-locks-set-features : Type 0
 Tight-locks-set-features = Tight {Left = Changed} locks-set-features.Asked locks-set-features.Learnt (λ κs result exit. result)
 
 abbrev pub Tight-drive-start : Type 0
-Tight-drive-start = Tight {Left = Answered × (List ℕ × List ℕ)} drive-start.Asked drive-start.Learnt (λ κs result exit. (result, (now (exit .0), now (exit .1 .0))))
+Tight-drive-start =
+    Tight {Left = Answered × (List ℕ × List ℕ)} drive-start.Asked drive-start.Learnt
+    (λ κs result exit. (result, (now (exit .0), now (exit .1 .0))))
 
 abbrev pub Tight-drive-answer-line : Type 0
-Tight-drive-answer-line = Tight {Left = Called × (List ℕ × (List ℕ × List ℕ))} drive-answer-line.Asked drive-answer-line.Learnt (λ κs result exit. (result, (now (exit .1 .0), (now (exit .1 .1 .0), now (exit .1 .1 .1 .1 .0)))))
+Tight-drive-answer-line =
+    Tight {Left = Reply × (List ℕ × (List ℕ × List ℕ))} drive-answer-line.Asked drive-answer-line.Learnt
+    (λ κs result exit. (result, (now (exit .1 .0), (now (exit .1 .1 .0), now (exit .1 .1 .1 .1 .0)))))
 
 abbrev pub Tight-drive-answer-session : Type 0
-Tight-drive-answer-session = Tight {Left = Session × (List ℕ × (List ℕ × List ℕ))} drive-answer-session.Asked drive-answer-session.Learnt (λ κs result exit. (result, (now (exit .1 .0), (now (exit .1 .1 .0), now (exit .1 .1 .1 .1 .0)))))
+Tight-drive-answer-session =
+    Tight {Left = SessionReply × (List ℕ × (List ℕ × List ℕ))} drive-answer-session.Asked drive-answer-session.Learnt
+    (λ κs result exit. (result, (now (exit .1 .0), (now (exit .1 .1 .0), now (exit .1 .1 .1 .1 .0)))))
 
 -- the lines and bytes that a call from C tells, it tells through a number that it is lent
 abbrev pub Tight-tuffaleen-c-start : Type 0
-Tight-tuffaleen-c-start = Tight {Left = ℕ × (List ℕ × List ℕ)} tuffaleen-c-start.Asked tuffaleen-c-start.Learnt (λ κs result exit. (result, (now (exit .0), now (exit .1 .0))))
+Tight-tuffaleen-c-start =
+    Tight {Left = ℕ × (List ℕ × List ℕ)} tuffaleen-c-start.Asked tuffaleen-c-start.Learnt
+    (λ κs result exit. (result, (now (exit .0), now (exit .1 .0))))
 
 abbrev pub Tight-tuffaleen-c-line : Type 0
-Tight-tuffaleen-c-line = Tight {Left = ℕ × (List ℕ × (List ℕ × (List ℕ × ℕ)))} tuffaleen-c-line.Asked tuffaleen-c-line.Learnt (λ κs result exit. (result, (now (exit .0), (now (exit .1 .0), (now (exit .1 .1 .1 .0), now (exit .1 .1 .1 .1 .0))))))
+Tight-tuffaleen-c-line =
+    Tight {Left = ℕ × (List ℕ × (List ℕ × (List ℕ × ℕ)))} tuffaleen-c-line.Asked tuffaleen-c-line.Learnt
+    (λ κs result exit. (result, (now (exit .0), (now (exit .1 .0), (now (exit .1 .1 .1 .0), now (exit .1 .1 .1 .1 .0))))))
 
 abbrev pub Tight-tuffaleen-c-session : Type 0
-Tight-tuffaleen-c-session = Tight {Left = ℕ × (List ℕ × (List ℕ × (List ℕ × (ℕ × ℕ))))} tuffaleen-c-session.Asked tuffaleen-c-session.Learnt (λ κs result exit. (result, (now (exit .0), (now (exit .1 .0), (now (exit .1 .1 .1 .0), (now (exit .1 .1 .1 .1 .0), now (exit .1 .1 .1 .1 .1 .0)))))))
+Tight-tuffaleen-c-session =
+    Tight {Left = ℕ × (List ℕ × (List ℕ × (List ℕ × (ℕ × ℕ))))} tuffaleen-c-session.Asked tuffaleen-c-session.Learnt
+    (λ κs result exit. (result, (now (exit .0), (now (exit .1 .0), (now (exit .1 .1 .1 .0), (now (exit .1 .1 .1 .1 .0), now (exit .1 .1 .1 .1 .1 .0)))))))

@@ -10,14 +10,14 @@ use native.Mathlib.Omega.{arith}
 use lib.Dec.{eqb}
 use borrow.Author.Tests.{ltb-false, le-leb}
 use Rattle.cells.proofs.CellsLaws.{length-cell}
-use Rattle.cells.proofs.TestsLaws.{and-left, and-right, or-right}
+use Rattle.cells.proofs.PredicatesLaws.{and-left, and-right, or-right}
 use Rattle.rules.specs.declared.Namespace.{Namespace}
 use Rattle.rules.specs.declared.Tag.{Tag}
 use Rattle.rules.specs.Numbers.{blocksEach, tagsMost, poolSlots, slotWidth}
 use Rattle.rules.specs.Checks.{Check, AllPass, onlyIf}
 use Rattle.rules.specs.Answers.{accepted}
-use Rattle.rules.specs.State.{State, Sized, sameNamespace, sameTag, count, managed, tagAbove, total}
-use Rattle.rules.specs.Slots.{placeOf, slot, emptied, Held, nothing, holding, held, otherKey, FitKey}
+use Rattle.rules.specs.State.{State, Sized, sameNamespace, sameTag, count, managed, tagAbove, total, IsNamespace}
+use Rattle.rules.specs.Slots.{placeOf, slot, emptied, Held, nothing, holding, held, otherKey, FitKey, IsSlot}
 use Rattle.rules.specs.Marks.{mark, neverWritten, identityOf}
 use Rattle.rules.specs.Sound.{someAbove, slotUnsound, unsound}
 use Rattle.rules.specs.declared.Command.{Command}
@@ -25,14 +25,15 @@ use Rattle.rules.specs.Frames.{Frame, manage, release, load, replace, cl
 use Rattle.rules.specs.Effects.{setCount, storeKey, emptySlot, emptySlots, emptyAllSlots, zeroMarks, markCovered, onlyWhen}
 use Rattle.rules.specs.Order as order
 use Rattle.rules.specs.Order.{frameRule, isWrite, isReading, commandChecks, keyChecks, markCheck, isPowerCycle, released, powerCycled}
-use Rattle.rules.specs.Promises.{IsNamespace, IsSlot}
 use Rattle.rules.specs.History.{touches, leaves, covers, countAfter}
 use Rattle.rules.proofs.ChecksLaws.{pass-append}
 use Rattle.rules.proofs.StateLaws.{same-namespace, same-tag, is-namespace, unmanaged, total-set}
 use Rattle.rules.proofs.FramesLaws.{Fit}
 use Rattle.rules.proofs.SlotsLaws.{bytesOf}
 use Rattle.rules.proofs.SoundLaws.{above-set, unallocated-zero, sound-counts, sound-total, sound-slot}
-use Rattle.rules.proofs.EffectsLaws.{named-slot, slot-fits, store-same, store-other, empty-same, empty-other, emptied-same, emptied-other, all-emptied, zeroed-same, zeroed-other, covered-same, covered-other, count-same, count-other, sized-count, sized-store, sized-empty, sized-emptied, sized-all, sized-zeroed, sized-covered}
+use Rattle.rules.proofs.EffectsLaws.{named-slot, slot-fits, store-same, store-other, empty-same, empty-other, emptied-same, emptied-other}
+use Rattle.rules.proofs.EffectsLaws.{all-emptied, zeroed-same, zeroed-other, covered-same, covered-other, count-same, count-other, sized-count}
+use Rattle.rules.proofs.EffectsLaws.{sized-store, sized-empty, sized-emptied, sized-all, sized-zeroed, sized-covered}
 
 abbrev effect : State → Frame → State
 effect s f = frameRule s f .effect
@@ -42,11 +43,12 @@ Passes s f = AllPass (frameRule s f .checks)
 
 -- the answer to a frame that passes is no refusal
 pub accepts : (s : State) (f : Frame) → accepted (frameRule s f .answer) ≡ true
-unfolding frameRule order.manage order.release order.load order.replace order.clearOne order.clearAll order.command order.setFeatures order.getFeatures order.bootWrite order.reset
+unfolding frameRule order.manage order.release order.load order.replace order.clearOne order.clearAll order.command order.setFeatures
+    order.getFeatures order.bootWrite order.reset
 accepts s (manage ns tags) = refl
 accepts s (release ns) = refl
-accepts s (load ns tag uid key) = refl
-accepts s (replace ns tag old uid key) = refl
+accepts s (load ns tag x) = refl
+accepts s (replace ns tag old x) = refl
 accepts s (clearOne ns tag) = refl
 accepts s (clearAll ns) = refl
 accepts s (io c) = refl
@@ -111,11 +113,12 @@ module _ (s : State) (sized : Sized s) (sound : unsound s ≡ false) where
     never e = absurd (true≢false (sym e))
 
     pub untouched : (f : Frame) → Fit f → Passes s f → touches ns tag f ≡ false → slot (effect s f) ns tag ≡ slot s ns tag
-    unfolding frameRule order.manage order.release order.load order.replace order.clearOne order.clearAll order.command order.setFeatures order.getFeatures order.bootWrite order.reset setCount zeroMarks markCovered
+    unfolding frameRule order.manage order.release order.load order.replace order.clearOne order.clearAll order.command order.setFeatures
+        order.getFeatures order.bootWrite order.reset setCount zeroMarks markCovered
     untouched (manage n tags) fit p e = refl
     untouched (release n) fit p e = emptied-other s sized n (is-namespace n (p .0)) ns tag is e
-    untouched (load n t uid key) fit p e = store-other s sized n t (named-slot s sound n t (is-namespace n (p .0)) (p .1 .1 .0)) ns tag is uid key fit e
-    untouched (replace n t old uid key) fit p e = store-other s sized n t (named-slot s sound n t (is-namespace n (p .0)) (p .1 .1 .0)) ns tag is uid key fit e
+    untouched (load n t x) fit p e = store-other s sized n t (named-slot s sound n t (is-namespace n (p .0)) (p .1 .1 .0)) ns tag is x fit e
+    untouched (replace n t old x) fit p e = store-other s sized n t (named-slot s sound n t (is-namespace n (p .0)) (p .1 .1 .0)) ns tag is x fit e
     untouched (clearOne n t) fit p e = empty-other s sized n t (named-slot s sound n t (is-namespace n (p .0)) (p .1 .1 .0)) ns tag is e
     untouched (clearAll n) fit p e = emptied-other s sized n (is-namespace n (p .0)) ns tag is e
     untouched (io c) fit p e = when-slot (managed s (c .ns) && isWrite c) (markCovered s c) refl
@@ -130,11 +133,12 @@ module _ (s : State) (sized : Sized s) (sound : unsound s ≡ false) where
     untouched unknown fit p e = refl
 
     pub touched : (f : Frame) → Fit f → Passes s f → touches ns tag f ≡ true → slot (effect s f) ns tag ≡ bytesOf (leaves f)
-    unfolding frameRule order.manage order.release order.load order.replace order.clearOne order.clearAll order.command order.setFeatures order.getFeatures order.bootWrite order.reset setCount zeroMarks
+    unfolding frameRule order.manage order.release order.load order.replace order.clearOne order.clearAll order.command order.setFeatures
+        order.getFeatures order.bootWrite order.reset setCount zeroMarks
     touched (manage n tags) fit p e = no-keys (ap (count s) (same-namespace ns n e) ∙ unmanaged s n (p .1 .0))
     touched (release n) fit p e = emptied-same s sized n (is-namespace n (p .0)) ns tag is e
-    touched (load n t uid key) fit p e = store-same s sized n t (named-slot s sound n t (is-namespace n (p .0)) (p .1 .1 .0)) ns tag is uid key fit e
-    touched (replace n t old uid key) fit p e = store-same s sized n t (named-slot s sound n t (is-namespace n (p .0)) (p .1 .1 .0)) ns tag is uid key fit e
+    touched (load n t x) fit p e = store-same s sized n t (named-slot s sound n t (is-namespace n (p .0)) (p .1 .1 .0)) ns tag is x fit e
+    touched (replace n t old x) fit p e = store-same s sized n t (named-slot s sound n t (is-namespace n (p .0)) (p .1 .1 .0)) ns tag is x fit e
     touched (clearOne n t) fit p e = empty-same s sized n t (named-slot s sound n t (is-namespace n (p .0)) (p .1 .1 .0)) ns tag is e
     touched (clearAll n) fit p e = emptied-same s sized n (is-namespace n (p .0)) ns tag is e
     touched (io c) fit p e = never e
@@ -147,7 +151,7 @@ module _ (s : State) (sized : Sized s) (sound : unsound s ≡ false) where
     -- a key that is put into a slot: it fits, its tag is allocated, and no loaded slot has its KeyUID and another key
     abbrev pub Storable : State → Held → Type 0
     Storable after nothing = Unit {0}
-    Storable after (holding uid key) = FitKey uid key × ((tagAbove after ns tag ≡ false) × (otherKey (s .keys) uid key ≡ false))
+    Storable after (holding x) = FitKey x × ((tagAbove after ns tag ≡ false) × (otherKey (s .keys) x ≡ false))
 
     same-slot : (n : Namespace) (t : Tag) → sameNamespace ns n && sameTag tag t ≡ true → tagAbove s n t ≡ false → tagAbove s ns tag ≡ false
     same-slot n t e a =
@@ -159,8 +163,8 @@ module _ (s : State) (sized : Sized s) (sound : unsound s ≡ false) where
     unfolding frameRule order.load order.replace storeKey
     storable (manage n tags) fit p e = tt
     storable (release n) fit p e = tt
-    storable (load n t uid key) fit p e = (fit, (same-slot n t e (p .1 .1 .0), p .1 .1 .1 .1 .0))
-    storable (replace n t old uid key) fit p e = (fit, (same-slot n t e (p .1 .1 .0), p .1 .1 .1 .1 .1 .0))
+    storable (load n t x) fit p e = (fit, (same-slot n t e (p .1 .1 .0), p .1 .1 .1 .1 .0))
+    storable (replace n t old x) fit p e = (fit, (same-slot n t e (p .1 .1 .0), p .1 .1 .1 .1 .1 .0))
     storable (clearOne n t) fit p e = tt
     storable (clearAll n) fit p e = tt
     storable (io c) fit p e = tt
@@ -174,8 +178,8 @@ module _ (s : State) (sized : Sized s) (sound : unsound s ≡ false) where
     pub untouched-count : (f : Frame) (before : ℕ) → touches ns tag f ≡ false → countAfter ns f before ≡ before
     untouched-count (manage n tags) before e = rw e
     untouched-count (release n) before e = rw e
-    untouched-count (load n t uid key) before e = refl
-    untouched-count (replace n t old uid key) before e = refl
+    untouched-count (load n t x) before e = refl
+    untouched-count (replace n t old x) before e = refl
     untouched-count (clearOne n t) before e = refl
     untouched-count (clearAll n) before e = refl
     untouched-count (io c) before e = refl
@@ -198,11 +202,12 @@ module _ (s : State) (sized : Sized s) (sound : unsound s ≡ false) where
     when-count false t e = refl
 
     pub count-effect : (f : Frame) → Passes s f → count (effect s f) ns ≡ countAfter ns f (count s ns)
-    unfolding frameRule order.manage order.release order.load order.replace order.clearOne order.clearAll order.command order.setFeatures order.getFeatures order.bootWrite order.reset storeKey emptySlot emptySlots emptyAllSlots zeroMarks markCovered
+    unfolding frameRule order.manage order.release order.load order.replace order.clearOne order.clearAll order.command order.setFeatures
+        order.getFeatures order.bootWrite order.reset storeKey emptySlot emptySlots emptyAllSlots zeroMarks markCovered
     count-effect (manage n tags) p = set-count n tags (is-namespace n (p .0)) (sameNamespace ns n) refl
     count-effect (release n) p = released-count s n ns ∙ set-count n 0 (is-namespace n (p .0)) (sameNamespace ns n) refl
-    count-effect (load n t uid key) p = refl
-    count-effect (replace n t old uid key) p = refl
+    count-effect (load n t x) p = refl
+    count-effect (replace n t old x) p = refl
     count-effect (clearOne n t) p = refl
     count-effect (clearAll n) p = refl
     count-effect (io c) p = when-count (managed s (c .ns) && isWrite c) (markCovered s c) refl
@@ -216,30 +221,31 @@ module _ (s : State) (sized : Sized s) (sound : unsound s ≡ false) where
   abbrev Counted : List ℕ → Type 0
   Counted counts = (someAbove tagsMost counts ≡ false) × (total counts ≤ poolSlots)
 
-  when-counted : (b : Bool) (t : State) → Counted (t .drive .counts) → Counted (onlyWhen b t s .drive .counts)
+  when-counted : (b : Bool) (t : State) → Counted (t .registers .counts) → Counted (onlyWhen b t s .registers .counts)
   when-counted true t h = h
   when-counted false t h = counted
     where
-      counted : Counted (s .drive .counts)
+      counted : Counted (s .registers .counts)
       counted = (sound-counts s sound, sound-total s sound)
 
-  pub counted-effect : (f : Frame) → Passes s f → Counted (effect s f .drive .counts)
-  unfolding frameRule order.manage order.release order.load order.replace order.clearOne order.clearAll order.command order.setFeatures order.getFeatures order.bootWrite order.reset setCount storeKey emptySlot emptySlots emptyAllSlots zeroMarks markCovered
+  pub counted-effect : (f : Frame) → Passes s f → Counted (effect s f .registers .counts)
+  unfolding frameRule order.manage order.release order.load order.replace order.clearOne order.clearAll order.command order.setFeatures
+      order.getFeatures order.bootWrite order.reset setCount storeKey emptySlot emptySlots emptyAllSlots zeroMarks markCovered
   counted-effect (manage n tags) p =
       let is = is-namespace n (p .0) in
       let l = sized .counts in
       let small : tags ≤ tagsMost = ltb-false tagsMost tags (or-right (eqb tags 0) _ (p .1 .1 .0)) in
-      let room : total (s .drive .counts) + tags ≤ poolSlots = ltb-false poolSlots _ (p .1 .1 .1 .0) in
-      let sum = total-set (s .drive .counts) (n .0 - 1) tags (omega arith) in
-      (above-set tagsMost (s .drive .counts) (n .0 - 1) tags (sound-counts s sound) small, omega arith)
+      let room : total (s .registers .counts) + tags ≤ poolSlots = ltb-false poolSlots _ (p .1 .1 .1 .0) in
+      let sum = total-set (s .registers .counts) (n .0 - 1) tags (omega arith) in
+      (above-set tagsMost (s .registers .counts) (n .0 - 1) tags (sound-counts s sound) small, omega arith)
   counted-effect (release n) p =
       let is = is-namespace n (p .0) in
       let l = sized .counts in
       let t = sound-total s sound in
-      let sum = total-set (s .drive .counts) (n .0 - 1) 0 (omega arith) in
-      (above-set tagsMost (s .drive .counts) (n .0 - 1) 0 (sound-counts s sound) (omega arith), omega arith)
-  counted-effect (load n t uid key) p = (sound-counts s sound, sound-total s sound)
-  counted-effect (replace n t old uid key) p = (sound-counts s sound, sound-total s sound)
+      let sum = total-set (s .registers .counts) (n .0 - 1) 0 (omega arith) in
+      (above-set tagsMost (s .registers .counts) (n .0 - 1) 0 (sound-counts s sound) (omega arith), omega arith)
+  counted-effect (load n t x) p = (sound-counts s sound, sound-total s sound)
+  counted-effect (replace n t old x) p = (sound-counts s sound, sound-total s sound)
   counted-effect (clearOne n t) p = (sound-counts s sound, sound-total s sound)
   counted-effect (clearAll n) p = (sound-counts s sound, sound-total s sound)
   counted-effect (io c) p = when-counted (managed s (c .ns) && isWrite c) (markCovered s c) (sound-counts s sound, sound-total s sound)
@@ -256,11 +262,13 @@ module _ (s : State) (sized : Sized s) (sound : unsound s ≡ false) where
     abbrev pub markAfter : Frame → List ℕ
     markAfter (manage n tags) = mark s ns block
     markAfter (release n) = cond (sameNamespace ns n) neverWritten (mark s ns block)
-    markAfter (load n t uid key) = mark s ns block
-    markAfter (replace n t old uid key) = mark s ns block
+    markAfter (load n t x) = mark s ns block
+    markAfter (replace n t old x) = mark s ns block
     markAfter (clearOne n t) = mark s ns block
     markAfter (clearAll n) = mark s ns block
-    markAfter (io c) = cond (managed s (c .ns) && isWrite c && (sameNamespace ns (c .ns) && covers c block)) (identityOf (held (slot s ns (c .tag)))) (mark s ns block)
+    markAfter (io c) =
+        cond (managed s (c .ns) && isWrite c && (sameNamespace ns (c .ns) && covers c block)) (identityOf (held (slot s ns (c .tag))))
+        (mark s ns block)
     markAfter (setFeatures dword11) = mark s ns block
     markAfter getFeatures = mark s ns block
     markAfter (bootWrite partition) = mark s ns block
@@ -283,11 +291,12 @@ module _ (s : State) (sized : Sized s) (sound : unsound s ≡ false) where
     when-mark false t e = refl
 
     pub mark-effect : (f : Frame) → Passes s f → mark (effect s f) ns block ≡ markAfter f
-    unfolding frameRule order.manage order.release order.load order.replace order.clearOne order.clearAll order.command order.setFeatures order.getFeatures order.bootWrite order.reset setCount storeKey emptySlot emptySlots emptyAllSlots
+    unfolding frameRule order.manage order.release order.load order.replace order.clearOne order.clearAll order.command order.setFeatures
+        order.getFeatures order.bootWrite order.reset setCount storeKey emptySlot emptySlots emptyAllSlots
     mark-effect (manage n tags) p = refl
     mark-effect (release n) p = released-mark s n ns block ∙ zeroed n (is-namespace n (p .0)) (sameNamespace ns n) refl
-    mark-effect (load n t uid key) p = refl
-    mark-effect (replace n t old uid key) p = refl
+    mark-effect (load n t x) p = refl
+    mark-effect (replace n t old x) p = refl
     mark-effect (clearOne n t) p = refl
     mark-effect (clearAll n) p = refl
     mark-effect (io c) p = covered c (in-namespace s c p) (in-range s c p) (managed s (c .ns) && isWrite c) (sameNamespace ns (c .ns) && covers c block) refl
@@ -305,13 +314,14 @@ module _ (s : State) (sized : Sized s) (sound : unsound s ≡ false) where
   when-sized false t h = sized
 
   pub sized-effect : (f : Frame) → Fit f → Passes s f → Sized (effect s f)
-  unfolding frameRule order.manage order.release order.load order.replace order.clearOne order.clearAll order.command order.setFeatures order.getFeatures order.bootWrite order.reset
+  unfolding frameRule order.manage order.release order.load order.replace order.clearOne order.clearAll order.command order.setFeatures
+      order.getFeatures order.bootWrite order.reset
   sized-effect (manage ns tags) fit p = sized-count s sized ns tags
   sized-effect (release ns) fit p =
       let is = is-namespace ns (p .0) in
       sized-count _ (sized-zeroed _ (sized-emptied s sized ns is) ns is) ns 0
-  sized-effect (load ns tag uid key) fit p = sized-store s sized ns tag (named-slot s sound ns tag (is-namespace ns (p .0)) (p .1 .1 .0)) uid key fit
-  sized-effect (replace ns tag old uid key) fit p = sized-store s sized ns tag (named-slot s sound ns tag (is-namespace ns (p .0)) (p .1 .1 .0)) uid key fit
+  sized-effect (load ns tag x) fit p = sized-store s sized ns tag (named-slot s sound ns tag (is-namespace ns (p .0)) (p .1 .1 .0)) x fit
+  sized-effect (replace ns tag old x) fit p = sized-store s sized ns tag (named-slot s sound ns tag (is-namespace ns (p .0)) (p .1 .1 .0)) x fit
   sized-effect (clearOne ns tag) fit p = sized-empty s sized ns tag (named-slot s sound ns tag (is-namespace ns (p .0)) (p .1 .1 .0))
   sized-effect (clearAll ns) fit p = sized-emptied s sized ns (is-namespace ns (p .0))
   sized-effect (io c) fit p = when-sized (managed s (c .ns) && isWrite c) (markCovered s c) (sized-covered s sized c (in-namespace s c p) (in-range s c p))

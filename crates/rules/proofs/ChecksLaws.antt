@@ -62,6 +62,15 @@ module _ {A : Type 0} where
   pub judged-pass : {B : Type 0} (cs : List (Check A)) (f : A → B) (o : B) → AllPass cs → judged cs f o ≡ o
   judged-pass cs f o p = ap (λ v. settle v f o) (pass-then cs p)
 
+  -- the same with the refusal's place in the list
+  pub by-verdict : {B : Type 0} (cs : List (Check A)) (f : A → B) (o : B)
+      → ((a : A) × (FirstToFail cs a × (judged cs f o ≡ f a))) ⊎ (AllPass cs × (judged cs f o ≡ o))
+  by-verdict cs f o =
+      ⊎-elim
+      (λ r. inl (r .0, (first-refusal cs (r .0) .0 (r .1), ap (λ v. settle v f o) (r .1))))
+      (λ p. inr (p, judged-pass cs f o p))
+      (verdict cs)
+
   pub judged-cases : {B : Type 0} (cs : List (Check A)) (f : A → B) (o : B) → ((a : A) × (judged cs f o ≡ f a)) ⊎ (AllPass cs × (judged cs f o ≡ o))
   judged-cases cs f o = ⊎-elim (λ r. inl (r .0, ap (λ v. settle v f o) (r .1))) (λ p. inr (p, judged-pass cs f o p)) (verdict cs)
 

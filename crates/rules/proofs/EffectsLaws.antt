@@ -14,17 +14,16 @@ use lib.Dec.{leb}
 use borrow.Author.Tests.{eq-eqb, leb-true, leb-false, le-leb}
 use Rattle.cells.specs.Cells.{cell, put}
 use Rattle.cells.proofs.CellsLaws.{length-zeros, length-put, cell-put-same, cell-put-other, length-fill, cell-fill-in, cell-fill-out}
-use Rattle.cells.proofs.TestsLaws.{and-left, and-right}
+use Rattle.cells.proofs.PredicatesLaws.{and-left, and-right}
 use Rattle.rules.specs.declared.Namespace.{Namespace}
 use Rattle.rules.specs.declared.Tag.{Tag}
 use Rattle.rules.specs.Numbers.{blocksEach, tagsMost, slotWidth, slotPlaces, cacheSize, markWidth, storeSize, identityMost}
-use Rattle.rules.specs.State.{State, Sized, keyTag, sameNamespace, sameTag, count, tagAbove}
-use Rattle.rules.specs.Slots.{placeOf, slot, emptied, slotBytes, Held, nothing, holding, held, FitKey}
+use Rattle.rules.specs.State.{State, Sized, keyTag, sameNamespace, sameTag, count, tagAbove, IsNamespace}
+use Rattle.rules.specs.Slots.{Contents, placeOf, slot, emptied, slotBytes, Held, nothing, holding, held, FitKey, IsSlot}
 use Rattle.rules.specs.Marks.{blockOf, mark, keptIdentity, neverWritten, identityOf}
 use Rattle.rules.specs.Sound.{unsound}
 use Rattle.rules.specs.declared.Command.{Command}
 use Rattle.rules.specs.Effects.{withKeys, withMarks, setCount, storeKey, emptySlot, emptySlots, emptyAllSlots, zeroMarks, markCovered}
-use Rattle.rules.specs.Promises.{IsNamespace, IsSlot}
 use Rattle.rules.specs.History.{covers}
 use Rattle.rules.proofs.StateLaws.{same-namespace, same-tag, other-namespace}
 use Rattle.rules.proofs.SlotsLaws.{place-small, length-padded, length-slot}
@@ -37,7 +36,7 @@ use Rattle.rules.proofs.SoundLaws.{above-none, sound-counts}
 pub named-slot : (s : State) → unsound s ≡ false → (ns : Namespace) (tag : Tag) → IsNamespace ns → tagAbove s ns tag ≡ false → IsSlot ns tag
 named-slot s sound ns tag is t =
     let a : tag .0 < count s ns = leb-false (count s ns) (tag .0) t in
-    let b : count s ns ≤ tagsMost = above-none tagsMost (s .drive .counts) (sound-counts s sound) (ns .0 - 1) in
+    let b : count s ns ≤ tagsMost = above-none tagsMost (s .registers .counts) (sound-counts s sound) (ns .0 - 1) in
     (is, omega arith)
 
 both-same : (ns n : Namespace) (tag t : Tag) → ns .0 ≡ n .0 → tag .0 ≡ t .0 → sameNamespace ns n && sameTag tag t ≡ true
@@ -74,13 +73,13 @@ module _ (s : State) (sized : Sized s) where
         ap (λ a. placeOf a tag) (same-namespace ns n (and-left _ _ e))
         ∙ ap (placeOf n) (same-tag tag t (and-right (sameNamespace ns n) _ e))
 
-    pub store-same : (uid key : List ℕ) → FitKey uid key → sameNamespace ns n && sameTag tag t ≡ true → slot (storeKey s n t uid key) ns tag ≡ slotBytes uid key
+    pub store-same : (x : Contents) → FitKey x → sameNamespace ns n && sameTag tag t ≡ true → slot (storeKey s n t x) ns tag ≡ slotBytes x
     unfolding storeKey
-    store-same uid key fit e = rw (at-same e) (put-same n t named (slotBytes uid key) (length-slot uid key fit))
+    store-same x fit e = rw (at-same e) (put-same n t named (slotBytes x) (length-slot x fit))
 
-    pub store-other : (uid key : List ℕ) → FitKey uid key → sameNamespace ns n && sameTag tag t ≡ false → slot (storeKey s n t uid key) ns tag ≡ slot s ns tag
+    pub store-other : (x : Contents) → FitKey x → sameNamespace ns n && sameTag tag t ≡ false → slot (storeKey s n t x) ns tag ≡ slot s ns tag
     unfolding storeKey
-    store-other uid key fit e = put-other n t named (slotBytes uid key) (length-slot uid key fit) ns tag is e
+    store-other x fit e = put-other n t named (slotBytes x) (length-slot x fit) ns tag is e
 
     pub empty-same : sameNamespace ns n && sameTag tag t ≡ true → slot (emptySlot s n t) ns tag ≡ emptied
     unfolding emptySlot
@@ -123,7 +122,7 @@ length-identity uid = omega (arith, length-padded identityMost (take identityMos
 
 pub length-held-identity : (x : Held) → length (identityOf x) ≡ markWidth
 length-held-identity nothing = length-zeros markWidth
-length-held-identity (holding uid key) = length-identity uid
+length-held-identity (holding x) = length-identity (x .uid)
 
 module _ (s : State) (sized : Sized s) (ns : Namespace) (is : IsNamespace ns) (block : ℕ) (inside : block < blocksEach) where
   store : length (s .marks) ≡ storeSize
@@ -162,7 +161,9 @@ module _ (s : State) (sized : Sized s) (ns : Namespace) (is : IsNamespace ns) (b
         let lo : c .first ≤ block = leb-true _ _ (and-left _ _ v) in
         let hi : block ≤ c .first + c .more = leb-true _ _ (and-right (leb (c .first) block) _ v) in
         let b : blockOf (c .ns) block ≡ blockOf (c .ns) (c .first) + (block - c .first) = omega arith in
-        rw (a, b) (cell-fill-in markWidth (blockOf (c .ns) (c .first)) (c .more + 1) (identityOf (held (slot s (c .ns) (c .tag)))) (s .marks) covered-fit full (block - c .first) (omega arith))
+        rw (a, b)
+        (cell-fill-in markWidth (blockOf (c .ns) (c .first)) (c .more + 1) (identityOf (held (slot s (c .ns) (c .tag)))) (s .marks)
+        covered-fit full (block - c .first) (omega arith))
 
     covered-when : ns .0 ≡ c .ns .0 → c .first ≤ block → block ≤ c .first + c .more → sameNamespace ns (c .ns) && covers c block ≡ true
     covered-when e lo hi = rw (eq-eqb (ns .0) (c .ns .0) e, le-leb (c .first) block lo, le-leb block (c .first + c .more) hi)
@@ -179,7 +180,8 @@ module _ (s : State) (sized : Sized s) (ns : Namespace) (is : IsNamespace ns) (b
     pub covered-other : sameNamespace ns (c .ns) && covers c block ≡ false → mark (markCovered s c) ns block ≡ mark s ns block
     unfolding markCovered
     covered-other e =
-        cell-fill-out markWidth (blockOf (c .ns) (c .first)) (c .more + 1) (identityOf (held (slot s (c .ns) (c .tag)))) (s .marks) covered-fit full (blockOf ns block) (outside e)
+        cell-fill-out markWidth (blockOf (c .ns) (c .first)) (c .more + 1) (identityOf (held (slot s (c .ns) (c .tag)))) (s .marks) covered-fit full
+        (blockOf ns block) (outside e)
 
 -- ------------------------------------------------------------------------
 -- Counts
@@ -190,13 +192,13 @@ module _ (s : State) (sized : Sized s) (ns n : Namespace) (is : IsNamespace ns) 
   count-same e =
       let l = sized .counts in
       let a : ns ≡ n = same-namespace ns n e in
-      rw a (getD-set-same (s .drive .counts) (n .0 - 1) tags 0 (omega arith))
+      rw a (getD-set-same (s .registers .counts) (n .0 - 1) tags 0 (omega arith))
 
   pub count-other : sameNamespace ns n ≡ false → count (setCount s n tags) ns ≡ count s ns
   unfolding setCount
   count-other e =
       let d : ns .0 ≡ n .0 → ⊥ = other-namespace ns n e in
-      getD-set-other (s .drive .counts) (n .0 - 1) (ns .0 - 1) tags 0 (λ f. d (omega arith))
+      getD-set-other (s .registers .counts) (n .0 - 1) (ns .0 - 1) tags 0 (λ f. d (omega arith))
 
 -- ------------------------------------------------------------------------
 -- Sizes
@@ -210,11 +212,11 @@ module _ (s : State) (sized : Sized s) where
 
   pub sized-count : (n : Namespace) (tags : ℕ) → Sized (setCount s n tags)
   unfolding setCount
-  sized-count n tags = record { counts = length-set (s .drive .counts) (n .0 - 1) tags ∙ sized .counts; cache = sized .cache; store = sized .store }
+  sized-count n tags = record { counts = length-set (s .registers .counts) (n .0 - 1) tags ∙ sized .counts; cache = sized .cache; store = sized .store }
 
-  pub sized-store : (n : Namespace) (t : Tag) → IsSlot n t → (uid key : List ℕ) → FitKey uid key → Sized (storeKey s n t uid key)
+  pub sized-store : (n : Namespace) (t : Tag) → IsSlot n t → (x : Contents) → FitKey x → Sized (storeKey s n t x)
   unfolding storeKey
-  sized-store n t is uid key fit = keys-sized _ (length-put slotWidth (placeOf n t) (slotBytes uid key) (s .keys) (slot-fits s sized n t is) (length-slot uid key fit))
+  sized-store n t is x fit = keys-sized _ (length-put slotWidth (placeOf n t) (slotBytes x) (s .keys) (slot-fits s sized n t is) (length-slot x fit))
 
   pub sized-empty : (n : Namespace) (t : Tag) → IsSlot n t → Sized (emptySlot s n t)
   unfolding emptySlot
@@ -222,7 +224,8 @@ module _ (s : State) (sized : Sized s) where
 
   pub sized-emptied : (n : Namespace) → IsNamespace n → Sized (emptySlots s n)
   unfolding emptySlots
-  sized-emptied n is = keys-sized _ (length-fill slotWidth (placeOf n (keyTag 0)) tagsMost emptied (s .keys) (omega (arith, sized .cache)) (length-zeros slotWidth))
+  sized-emptied n is =
+      keys-sized _ (length-fill slotWidth (placeOf n (keyTag 0)) tagsMost emptied (s .keys) (omega (arith, sized .cache)) (length-zeros slotWidth))
 
   pub sized-all : Sized (emptyAllSlots s)
   unfolding emptyAllSlots
@@ -230,7 +233,8 @@ module _ (s : State) (sized : Sized s) where
 
   pub sized-zeroed : (n : Namespace) → IsNamespace n → Sized (zeroMarks s n)
   unfolding zeroMarks
-  sized-zeroed n is = marks-sized _ (length-fill markWidth (blockOf n 0) blocksEach neverWritten (s .marks) (omega (arith, sized .store)) (length-zeros markWidth))
+  sized-zeroed n is =
+      marks-sized _ (length-fill markWidth (blockOf n 0) blocksEach neverWritten (s .marks) (omega (arith, sized .store)) (length-zeros markWidth))
 
   pub sized-covered : (c : Command) → IsNamespace (c .ns) → c .first + c .more + 1 ≤ blocksEach → Sized (markCovered s c)
   unfolding markCovered

@@ -10,18 +10,19 @@ use lib.Dec.{eqb}
 use borrow.Author.Tests.{eqb-true, eqb-false, ltb-false, not-false}
 use Rattle.cells.specs.Cells.{part}
 use Rattle.cells.proofs.CellsLaws.{length-part}
-use Rattle.cells.proofs.TestsLaws.{or-left, or-right}
+use Rattle.cells.proofs.PredicatesLaws.{or-left, or-right}
 use Rattle.rules.specs.Numbers.{uidMost, keySize}
 use Rattle.rules.specs.Checks.{AllPass}
-use Rattle.rules.specs.FrameLine.{byte}
+use Rattle.rules.specs.Fields.{byte}
 use Rattle.rules.specs.Slots.{FitKey}
-use Rattle.rules.specs.Frames.{Frame, manage, release, load, replace, clearOne, clearAll, io, setFeatures, getFeatures, bootWrite, reset, unknown, badUidLength, readLoad, readReplace, unknownKind, kinds, readFrame}
+use Rattle.rules.specs.Frames.{Frame, manage, release, load, replace, clearOne, clearAll, io, setFeatures, getFeatures, bootWrite, reset}
+use Rattle.rules.specs.Frames.{unknown, badUidLength, contentsAt, readLoad, readReplace, unknownKind, kinds, readFrame}
 
 abbrev pub Fit : Frame → Type 0
 Fit (manage ns tags) = Unit {0}
 Fit (release ns) = Unit {0}
-Fit (load ns tag uid key) = FitKey uid key
-Fit (replace ns tag old uid key) = FitKey uid key
+Fit (load ns tag x) = FitKey x
+Fit (replace ns tag old x) = FitKey x
 Fit (clearOne ns tag) = Unit {0}
 Fit (clearAll ns) = Unit {0}
 Fit (io c) = Unit {0}
@@ -32,7 +33,7 @@ Fit (reset level) = Unit {0}
 Fit unknown = Unit {0}
 
 -- a KeyUID of l bytes from a, and the key behind it
-fit-at : (f : List ℕ) (a l : ℕ) → badUidLength l ≡ false → length f ≡ a + l + keySize → FitKey (part a l f) (part (a + l) keySize f)
+fit-at : (f : List ℕ) (a l : ℕ) → badUidLength l ≡ false → length f ≡ a + l + keySize → FitKey (contentsAt a l f)
 fit-at f a l b e =
     let n : l ≡ 0 → ⊥ = eqb-false l 0 (or-left _ _ b) in
     let m : l ≤ uidMost = ltb-false uidMost l (or-right (eqb l 0) _ b) in

@@ -10,7 +10,7 @@ use Prim.Native.Nat.{ℕ, _-_, _<_}
 use native.Mathlib.Omega.{arith}
 use lib.Dec.{eqb}
 use Rattle.cells.specs.Cells.{part, zeros}
-use Rattle.cells.specs.Tests.{allZero, someFrom, someCell}
+use Rattle.cells.specs.Predicates.{allZero, someFrom, someCell}
 use Rattle.cells.proofs.CellsLaws.{length-zeros, getD-zeros, cell-zeros}
 use Rattle.rules.specs.declared.Namespace.{Namespace}
 use Rattle.rules.specs.declared.Tag.{Tag}
@@ -19,23 +19,24 @@ use Rattle.rules.specs.declared.Answer.the-variants.{Refused}
 use Rattle.rules.specs.Numbers.{namespaces, blocksEach, slotWidth, cacheSize, markWidth, storeSize}
 use Rattle.rules.specs.Checks.{AllPass}
 use Rattle.rules.specs.Answers.{accepted}
-use Rattle.rules.specs.State.{State, Sized, sameNamespace, count, managed}
-use Rattle.rules.specs.Slots.{placeOf, slot, emptied, loaded, uidOf, keyOf, Held, nothing, holding, held}
+use Rattle.rules.specs.State.{State, Sized, sameNamespace, count, managed, IsNamespace}
+use Rattle.rules.specs.Slots.{placeOf, slot, emptied, loaded, uidOf, keyOf, Held, nothing, holding, held, IsSlot}
 use Rattle.rules.specs.Marks.{blockOf, mark, neverWritten, identityOf}
 use Rattle.rules.specs.Sound.{someAbove, slotUnsound, unsound}
 use Rattle.rules.specs.declared.Command.{Command}
 use Rattle.rules.specs.Frames.{Frame, manage, release, load, replace, clearOne, clearAll, io, setFeatures, getFeatures, bootWrite, reset, unknown}
 use Rattle.rules.specs.Order as order
 use Rattle.rules.specs.Order.{frameRule, frameOf, isWrite, keyChecks, step}
-use Rattle.rules.specs.Start.{freshDrive, fresh}
+use Rattle.rules.specs.Start.{freshRegisters, fresh}
 use Rattle.rules.specs.History.{Event, touches, leaves, holds, covers, writtenAfter, lastWritten, countAfter, tagCount}
-use Rattle.rules.specs.Promises.{IsNamespace, IsSlot, after, history}
+use Rattle.rules.specs.Promises.{FromFresh, start, one-more}
 use Rattle.rules.proofs.StateLaws.{same-namespace, unmanaged}
 use Rattle.rules.proofs.FramesLaws.{Fit}
 use Rattle.rules.proofs.SlotsLaws.{bytesOf, FitHeld, held-bytes, uid-stored, key-stored, same-key, no-other-key}
 use Rattle.rules.proofs.EffectsLaws.{named-slot}
-use Rattle.rules.proofs.AcceptedLaws.{accepts, in-namespace, key-checks, sized-effect, touched, untouched, Storable, storable, count-effect, markAfter, mark-effect}
-use Rattle.rules.proofs.StepLaws.{refused-or-taken, sound-effect}
+use Rattle.rules.proofs.AcceptedLaws.{accepts, in-namespace, key-checks, sized-effect, touched, untouched, Storable, storable, count-effect}
+use Rattle.rules.proofs.AcceptedLaws.{markAfter, mark-effect}
+use Rattle.rules.proofs.TakenLaws.{refused-or-taken, sound-effect}
 
 -- no two loaded slots have equal KeyUIDs and unequal keys
 abbrev pub Apart : State → Type 0
@@ -60,14 +61,14 @@ pub record Kept (s : State) (h : List Event) : Type 0 where
 -- A fresh drive
 
 fresh-sound : unsound fresh ≡ false
-unfolding unsound someAbove slotUnsound someCell someFrom allZero part zeros freshDrive
+unfolding unsound someAbove slotUnsound someCell someFrom allZero part zeros freshRegisters
 fresh-sound = refl
 
 fresh-slot : (ns : Namespace) (tag : Tag) → IsSlot ns tag → slot fresh ns tag ≡ emptied
 fresh-slot ns tag is = cell-zeros slotWidth (placeOf ns tag) cacheSize (omega arith)
 
 fresh-count : (ns : Namespace) → IsNamespace ns → count fresh ns ≡ 0
-unfolding freshDrive
+unfolding freshRegisters
 fresh-count ns is = getD-zeros namespaces (ns .0 - 1) (omega arith)
 
 emptied-not : loaded emptied ≡ true → ⊥
@@ -75,7 +76,7 @@ unfolding zeros
 emptied-not e = true≢false (sym e)
 
 fresh-sized : Sized fresh
-unfolding freshDrive
+unfolding freshRegisters
 fresh-sized = record { counts = length-zeros namespaces; cache = length-zeros cacheSize; store = length-zeros storeSize }
 
 pub kept-fresh : Kept fresh []
@@ -114,8 +115,8 @@ kept-refused s h line r k = record {
 leaves-fit : (f : Frame) → Fit f → FitHeld (leaves f)
 leaves-fit (manage n tags) fit = tt
 leaves-fit (release n) fit = tt
-leaves-fit (load n t uid key) fit = fit
-leaves-fit (replace n t old uid key) fit = fit
+leaves-fit (load n t x) fit = fit
+leaves-fit (replace n t old x) fit = fit
 leaves-fit (clearOne n t) fit = tt
 leaves-fit (clearAll n) fit = tt
 leaves-fit (io c) fit = tt
@@ -129,11 +130,12 @@ cond-fit : (b : Bool) (x y : Held) → FitHeld x → FitHeld y → FitHeld (cond
 cond-fit true x y p q = p
 cond-fit false x y p q = q
 
-written-fit : (ns : Namespace) (block : ℕ) (f : Frame) (h : List Event) (x : Held) → ((tag : Tag) → FitHeld (holds ns tag h)) → FitHeld x → FitHeld (writtenAfter ns block f h x)
+written-fit : (ns : Namespace) (block : ℕ) (f : Frame) (h : List Event) (x : Held) → ((tag : Tag) → FitHeld (holds ns tag h)) → FitHeld x
+    → FitHeld (writtenAfter ns block f h x)
 written-fit ns block (manage n tags) h x p q = cond-fit (sameNamespace ns n) nothing x tt q
 written-fit ns block (release n) h x p q = q
-written-fit ns block (load n t uid key) h x p q = q
-written-fit ns block (replace n t old uid key) h x p q = q
+written-fit ns block (load n t y) h x p q = q
+written-fit ns block (replace n t old y) h x p q = q
 written-fit ns block (clearOne n t) h x p q = q
 written-fit ns block (clearAll n) h x p q = q
 written-fit ns block (io c) h x p q = cond-fit (isWrite c && sameNamespace ns (c .ns) && covers c block) (holds ns (c .tag) h) x (p (c .tag)) q
@@ -144,7 +146,8 @@ written-fit ns block (reset level) h x p q = q
 written-fit ns block unknown h x p q = q
 
 -- the key that a command of a managed namespace names
-pub named-key : (s : State) (h : List Event) → Kept s h → (c : Command) → IsNamespace (c .ns) → AllPass (keyChecks s c) → held (slot s (c .ns) (c .tag)) ≡ holds (c .ns) (c .tag) h
+pub named-key : (s : State) (h : List Event) → Kept s h → (c : Command) → IsNamespace (c .ns) → AllPass (keyChecks s c)
+    → held (slot s (c .ns) (c .tag)) ≡ holds (c .ns) (c .tag) h
 named-key s h k c is p =
     ap held (k .slots (c .ns) (c .tag) (named-slot s (k .sound) (c .ns) (c .tag) is (p .1 .0)))
     ∙ held-bytes (holds (c .ns) (c .tag) h) (k .fit (c .ns) (c .tag))
@@ -173,9 +176,9 @@ module _ (s : State) (h : List Event) (k : Kept s h) (f : Frame) (fit : Fit f) (
       → (ns′ : Namespace) (tag′ : Tag) → IsSlot ns′ tag′ → loaded (slot s ns′ tag′) ≡ true → uidOf (bytesOf x) ≡ uidOf (slot s ns′ tag′)
       → keyOf (bytesOf x) ≡ keyOf (slot s ns′ tag′)
   new-key ns tag is nothing p l ns′ tag′ is′ l′ e = absurd (emptied-not l)
-  new-key ns tag is (holding uid key) p l ns′ tag′ is′ l′ e =
-      key-stored uid key (p .0)
-      ∙ sym (same-key uid key (slot s ns′ tag′) (no-other-key s uid key (p .1 .1) ns′ tag′ is′) l′ (sym e ∙ uid-stored uid key (p .0)))
+  new-key ns tag is (holding x) p l ns′ tag′ is′ l′ e =
+      key-stored x (p .0)
+      ∙ sym (same-key x (slot s ns′ tag′) (no-other-key s x (p .1 .1) ns′ tag′ is′) l′ (sym e ∙ uid-stored x (p .0)))
 
   module _ (ns ns′ : Namespace) (tag tag′ : Tag) (is : IsSlot ns tag) (is′ : IsSlot ns′ tag′) where
     one-new : touches ns tag f ≡ true → touches ns′ tag′ f ≡ false → loaded (slot next ns tag) ≡ true → loaded (slot next ns′ tag′) ≡ true
@@ -230,7 +233,8 @@ module _ (s : State) (h : List Event) (k : Kept s h) (f : Frame) (fit : Fit f) (
     -- by: the namespace is managed, the command is a write, to this namespace, and covers the block
     writing : (c : Command) → (managed s (c .ns) ≡ true → identityOf (held (slot s (c .ns) (c .tag))) ≡ identityOf (holds (c .ns) (c .tag) h))
         → (m w n v : Bool) → managed s (c .ns) ≡ m → sameNamespace ns (c .ns) ≡ n
-        → cond (m && w && (n && v)) (identityOf (held (slot s ns (c .tag)))) (mark s ns block) ≡ told (count s ns) (cond (w && n && v) (holds ns (c .tag) h) last)
+        → cond (m && w && (n && v)) (identityOf (held (slot s ns (c .tag)))) (mark s ns block)
+        ≡ told (count s ns) (cond (w && n && v) (holds ns (c .tag) h) last)
     writing c key true true true true m n =
         let same : ns ≡ c .ns = same-namespace ns (c .ns) n in
         let took : managed s ns ≡ true = ap (managed s) same ∙ m in
@@ -250,8 +254,8 @@ module _ (s : State) (h : List Event) (k : Kept s h) (f : Frame) (fit : Fit f) (
     unfolding frameRule order.manage
     mark-told (manage n tags) p = managing n tags (unmanaged s n (p .1 .0)) (sameNamespace ns n) refl
     mark-told (release n) p = releasing (sameNamespace ns n)
-    mark-told (load n t uid key) p = before
-    mark-told (replace n t old uid key) p = before
+    mark-told (load n t x) p = before
+    mark-told (replace n t old x) p = before
     mark-told (clearOne n t) p = before
     mark-told (clearAll n) p = before
     mark-told (io c) p =
@@ -309,7 +313,6 @@ kept-step s h line k =
     (λ t. rw (t .is) (kept-taken s h (record { line = line; answer = frameRule s (frameOf line) .answer }) k (t .fit) (t .passes) (accepts s (frameOf line))))
     (refused-or-taken s line)
 
-pub kept-after : (lines : List (List ℕ)) → Kept (after lines) (history lines)
-unfolding after history
-kept-after [] = kept-fresh
-kept-after (line ∷ older) = kept-step (after older) (history older) line (kept-after older)
+pub kept : (h : List Event) (s : State) → FromFresh h s → Kept s h
+kept h s start = kept-fresh
+kept h s (one-more h′ s′ led line) = kept-step s′ h′ line (kept h′ s′ led)

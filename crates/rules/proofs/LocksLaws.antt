@@ -6,7 +6,7 @@ use mathlib.Core.Logic.{_⊎_, inl, inr}
 use Prim.Native.Nat.{ℕ, zero, suc}
 use lib.Dec.{eqb}
 use borrow.Author.Tests.{eqb-true}
-use Rattle.cells.proofs.TestsLaws.{or-left, or-right}
+use Rattle.cells.proofs.PredicatesLaws.{or-left, or-right}
 use Rattle.rules.specs.declared.Lock.{Lock}
 use Rattle.rules.specs.declared.Lock.the-variants.{WriteLockedUntilPowerCycle}
 use Rattle.rules.specs.declared.BootLocks.{BootLocks}
@@ -34,26 +34,27 @@ changed-held locks d p e n = by (eqb p 0) e
     by true h = asked-held (field0 d) (locks .partition0) h (or-left (asksHeld (locks .partition0) (field0 d)) _ n)
     by false h = asked-held (field1 d) (locks .partition1) h (or-right (asksHeld (locks .partition0) (field0 d)) _ n)
 
-pub held-effect : (s : State) (p : ℕ) (f : Frame) → AllPass (frameRule s f .checks) → Held (partition p (s .drive .locks))
-    → Held (partition p (frameRule s f .effect .drive .locks)) ⊎ (f ≡ reset 1)
-unfolding frameRule order.manage order.release order.load order.replace order.clearOne order.clearAll order.command order.setFeatures order.getFeatures order.bootWrite order.reset setCount storeKey emptySlot emptySlots emptyAllSlots zeroMarks markCovered
+pub held-effect : (s : State) (p : ℕ) (f : Frame) → AllPass (frameRule s f .checks) → Held (partition p (s .registers .locks))
+    → Held (partition p (frameRule s f .effect .registers .locks)) ⊎ (f ≡ reset 1)
+unfolding frameRule order.manage order.release order.load order.replace order.clearOne order.clearAll order.command order.setFeatures
+    order.getFeatures order.bootWrite order.reset setCount storeKey emptySlot emptySlots emptyAllSlots zeroMarks markCovered
 held-effect s p (manage ns tags) q h = inl h
 held-effect s p (release ns) q h = inl h
-held-effect s p (load ns tag uid key) q h = inl h
-held-effect s p (replace ns tag old uid key) q h = inl h
+held-effect s p (load ns tag x) q h = inl h
+held-effect s p (replace ns tag old x) q h = inl h
 held-effect s p (clearOne ns tag) q h = inl h
 held-effect s p (clearAll ns) q h = inl h
 held-effect s p (io c) q h = inl (kept (managed s (c .ns) && isWrite c))
   where
-    kept : (b : Bool) → Held (partition p (onlyWhen b (markCovered s c) s .drive .locks))
+    kept : (b : Bool) → Held (partition p (onlyWhen b (markCovered s c) s .registers .locks))
     kept true = h
     kept false = h
-held-effect s p (setFeatures d) q h = inl (changed-held (s .drive .locks) d p h (q .1 .0))
+held-effect s p (setFeatures d) q h = inl (changed-held (s .registers .locks) d p h (q .1 .0))
 held-effect s p getFeatures q h = inl h
 held-effect s p (bootWrite partition) q h = inl h
 held-effect s p (reset level) q h = by (isPowerCycle level) refl
   where
-    by : (b : Bool) → isPowerCycle level ≡ b → Held (partition p (onlyWhen b (powerCycled s) s .drive .locks)) ⊎ (reset level ≡ reset 1)
+    by : (b : Bool) → isPowerCycle level ≡ b → Held (partition p (onlyWhen b (powerCycled s) s .registers .locks)) ⊎ (reset level ≡ reset 1)
     by true e = inr (ap reset (eqb-true level 1 e))
     by false e = inl h
 held-effect s p unknown q h = inl h

@@ -11,8 +11,8 @@ use lib.ListN.{getD}
 use lib.Dec.{eqb, leb}
 use borrow.Author.Tests.{eqb-true, leb-true, le-leb}
 use Rattle.cells.specs.Cells.{cell, zeros}
-use Rattle.cells.specs.Tests.{same}
-use Rattle.cells.proofs.TestsLaws.{and-left, and-right, same-eq, same-refl, none-then, then-none}
+use Rattle.cells.specs.Predicates.{same}
+use Rattle.cells.proofs.PredicatesLaws.{and-left, and-right, same-eq, same-refl, none-then, then-none}
 use Rattle.rules.specs.Numbers.{markWidth}
 use Rattle.rules.specs.State.{State}
 use Rattle.rules.specs.Slots.{slot, Held, nothing, holding, held}
@@ -48,7 +48,7 @@ same-differs identity m e = ap (λ b. not (eqb (getD m 0 0) 0) && not b) (ap (λ
 pub never-then : (x : Held) → FitHeld x → getD (identityOf x) 0 0 ≡ 0 → x ≡ nothing
 unfolding keptIdentity
 never-then nothing fit e = refl
-never-then (holding uid key) fit e = let some = fit .some in absurd (omega arith)
+never-then (holding x) fit e = let some = fit .some in absurd (omega arith)
 
 -- ------------------------------------------------------------------------
 -- The covered blocks

@@ -10,16 +10,15 @@ use lib.ListN.{length, getD, take}
 use lib.Seq.{take-suc, take-length}
 use lib.Dec.{eqb, ltb}
 use borrow.Author.Tests.{eqb-false, eq-eqb, ne-eqb, ltb-true, ltb-false, lt-ltb, le-ltb}
-use Rattle.cells.proofs.TestsLaws.{or-left, or-right, neither}
+use Rattle.cells.proofs.PredicatesLaws.{or-left, or-right, neither}
 use Rattle.rules.specs.declared.Namespace.{Namespace}
 use Rattle.rules.specs.declared.Answer.the-variants.{Done, Refused}
 use Rattle.rules.specs.Numbers.{namespaces, poolSlots, tagsMost}
 use Rattle.rules.specs.Checks.{_when_, judged}
 use Rattle.rules.specs.Answers.{number, 00·0B, 07·05, 07·07, 07·08}
-use Rattle.rules.specs.State.{State, Outcome, refuse, obey, namespace, noNamespace, count, managed, total}
+use Rattle.rules.specs.State.{State, Outcome, refuse, obey, namespace, noNamespace, IsNamespace, count, managed, total}
 use Rattle.rules.specs.Order.{manage}
 use Rattle.rules.specs.History.{Event, tagCount, tagCounts}
-use Rattle.rules.specs.Promises.{IsNamespace}
 use Rattle.rules.proofs.StateLaws.{is-namespace, unmanaged}
 use Rattle.rules.proofs.HistoryLaws.{Kept}
 
@@ -30,7 +29,8 @@ total-append : (xs ys : List ℕ) → total (xs ++ ys) ≡ total xs + total ys
 total-append [] ys = omega arith
 total-append (x ∷ xs) ys = omega (arith, total-append xs ys)
 
-total-told : (h : List Event) (xs : List ℕ) (n : ℕ) → n ≤ length xs → ((i : ℕ) → i < n → getD xs i 0 ≡ tagCount (namespace (suc i)) h) → total (take n xs) ≡ tagCounts n h
+total-told : (h : List Event) (xs : List ℕ) (n : ℕ) → n ≤ length xs → ((i : ℕ) → i < n → getD xs i 0 ≡ tagCount (namespace (suc i)) h)
+    → total (take n xs) ≡ tagCounts n h
 unfolding tagCounts
 total-told h [] zero l e = refl
 total-told h (x ∷ xs) zero l e = refl
@@ -40,14 +40,14 @@ total-told h xs (suc n) l e =
     ∙ total-append (take n xs) (getD xs n 0 ∷ [])
     ∙ omega (arith, e n (omega arith))
 
-counts-told : (s : State) (h : List Event) → Kept s h → total (s .drive .counts) ≡ tagCounts namespaces h
+counts-told : (s : State) (h : List Event) → Kept s h → total (s .registers .counts) ≡ tagCounts namespaces h
 counts-told s h k =
     let l = k .sized .counts in
-    ap total (sym (take-length (s .drive .counts)))
-    ∙ ap (λ n. total (take n (s .drive .counts))) l
-    ∙ total-told h (s .drive .counts) namespaces (omega arith) (λ i b.
+    ap total (sym (take-length (s .registers .counts)))
+    ∙ ap (λ n. total (take n (s .registers .counts))) l
+    ∙ total-told h (s .registers .counts) namespaces (omega arith) (λ i b.
     let e : suc i - 1 ≡ i = omega arith in
-    ap (λ j. getD (s .drive .counts) j 0) (sym e) ∙ k .counts (namespace (suc i)) (omega arith, omega arith))
+    ap (λ j. getD (s .registers .counts) j 0) (sym e) ∙ k .counts (namespace (suc i)) (omega arith, omega arith))
 
 -- ------------------------------------------------------------------------
 -- The four checks
@@ -71,14 +71,15 @@ pub pool-too-small : (s : State) (h : List Event) → Kept s h → (ns : Namespa
 unfolding manage
 pool-too-small s h k ns tags =
     let sum = counts-told s h k in
-    let four = last-of-four s (noNamespace ns) (managed s ns) (eqb tags 0 || ltb tagsMost tags) (ltb poolSlots (total (s .drive .counts) + tags))
+    let four = last-of-four s (noNamespace ns) (managed s ns) (eqb tags 0 || ltb tagsMost tags) (ltb poolSlots (total (s .registers .counts) + tags))
     (record { answer = Done; state = manage s ns tags .effect }) refl in (
       λ e.
           let p = four .0 e in
           let is = is-namespace ns (p .0) in
           let some : tags ≡ 0 → ⊥ = eqb-false tags 0 (or-left (eqb tags 0) _ (p .1 .1 .0)) in
-          let over : poolSlots < total (s .drive .counts) + tags = ltb-true poolSlots _ (p .1 .1 .1) in
-          (is, (sym (k .counts ns is) ∙ unmanaged s ns (p .1 .0), (omega arith, (ltb-false tagsMost tags (or-right (eqb tags 0) _ (p .1 .1 .0)), omega arith)))),
+          let over : poolSlots < total (s .registers .counts) + tags = ltb-true poolSlots _ (p .1 .1 .1) in
+          let few = ltb-false tagsMost tags (or-right (eqb tags 0) _ (p .1 .1 .0)) in
+          (is, (sym (k .counts ns is) ∙ unmanaged s ns (p .1 .0), (omega arith, (few, omega arith)))),
       λ q.
           let none : count s ns ≡ 0 = k .counts ns (q .0) ∙ q .1 .0 in
           let over : poolSlots < tagCounts namespaces h + tags = q .1 .1 .1 .1 in
@@ -86,6 +87,6 @@ pool-too-small s h k ns tags =
           let small = neither (eqb tags 0) (ltb tagsMost tags) (ne-eqb tags 0 (λ z. omega arith)) (le-ltb tagsMost tags (q .1 .1 .1 .0)) in
           four .1 (
             namespace-then ns (q .0),
-            (ap not (eq-eqb (count s ns) 0 none), (small, lt-ltb poolSlots (total (s .drive .counts) + tags) (omega arith))),
+            (ap not (eq-eqb (count s ns) 0 none), (small, lt-ltb poolSlots (total (s .registers .counts) + tags) (omega arith))),
           ),
     )

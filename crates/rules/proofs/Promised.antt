@@ -1,4 +1,5 @@
--- The promises of specs/Promises.antt, each proved.
+-- The promises of specs/Promises.antt, each proved: those about calls, sessions
+-- and histories of the definitions' own relations.
 -- Assumes nothing.
 use mathlib.Core.Path.{_≡_, refl, sym, ap, _∙_}
 use mathlib.Core.Bool.{Bool, true, false, not, cond, true≢false}
@@ -6,133 +7,147 @@ use mathlib.Core.List.{List, [], _∷_, _++_}
 use mathlib.Core.Logic.{_↔_, _⊎_, inl, inr, ⊎-elim}
 use Prim.Native.Nat.{ℕ, _+_, _≤_, _<_}
 use native.Mathlib.Omega.{arith}
-use lib.ListN.{length, getD}
+use lib.ListN.{getD}
 use lib.Dec.{leb}
 use borrow.Author.Tests.{ltb-false, leb-true, not-false}
-use Rattle.cells.proofs.TestsLaws.{and-right}
+use Rattle.cells.proofs.PredicatesLaws.{and-right}
 use Rattle.rules.specs.declared.Namespace.{Namespace}
 use Rattle.rules.specs.declared.Tag.{Tag}
 use Rattle.rules.specs.declared.Refusal.{Refusal}
+use Rattle.rules.specs.declared.Answer.{Answer}
 use Rattle.rules.specs.declared.Answer.the-variants.{Done, Refused}
+use Rattle.rules.specs.declared.Command.{Command}
 use Rattle.rules.specs.Numbers.{blocksEach}
 use Rattle.rules.specs.Checks.{Check, _when_, judged, onlyIf, AllPass}
-use Rattle.rules.specs.Answers.{answerLine, 00·28}
-use Rattle.rules.specs.State.{State, Outcome, refuse, obey, managed}
-use Rattle.rules.specs.Slots.{slot, empty, loaded, uidOf, keyOf, Held, nothing, holding, held}
+use Rattle.rules.specs.Answers.{00·28}
+use Rattle.rules.specs.State.{State, Outcome, refuse, obey, managed, IsNamespace}
+use Rattle.rules.specs.Slots.{Contents, slot, empty, loaded, uidOf, keyOf, contentsOf, Held, nothing, holding, held}
 use Rattle.rules.specs.Marks.{mark, neverWritten, identityOf, differs}
-use Rattle.rules.specs.declared.Command.{Command}
 use Rattle.rules.specs.Frames.{manage, load, io, reset}
 use Rattle.rules.specs.Effects.{emptyAllSlots}
 use Rattle.rules.specs.Order as order
 use Rattle.rules.specs.Order.{frameRule, frameOf, lineRule, step, isReading, commandChecks, keyChecks, markCheck, wrongKey}
-use Rattle.rules.specs.Call.{callChecks, roomFor, written, Called, call}
-use Rattle.rules.specs.Sessions.{linesOf, endState, answerLines, roomForAll, Session, session}
+use Rattle.rules.specs.Call.{callChecks, roomFor, Called, unanswered, answered, call}
+use Rattle.rules.specs.Sessions.{Session, noSession, allAnswered, session}
 use Rattle.rules.specs.History.{Event, holds, covers, lastWritten}
-use Rattle.rules.specs.Promises.{after, history, IsNamespace, SlotAsTold, SameIdentityOrNever, OneKeyForAKeyUid, LoadFindsNothing, CountAsTold, PoolTooSmallWhen, RefusedWhen, RefusedKeeps, CallRefusedKeeps, SessionRefusedKeeps, SoundKept, HeldUntilPowerCycle, ControllerResetKeeps, PowerCycleLocks}
-use Rattle.rules.proofs.ChecksLaws.{judged-append, judged-pass, judged-cases}
+use Rattle.rules.specs.Promises.{Calls, Sessions, FromFresh, Steps, checksOf, sessionChecks, RefusedWhen, DoneWhen, RefusedKeeps, Writes}
+use Rattle.rules.specs.Promises.{SessionRefusedWhen, SessionRefusedKeeps, SessionAnswers, SlotAsTold, OneKeyForAKeyUid, CountAsTold, NeverUnsound}
+use Rattle.rules.specs.Promises.{SameIdentityOrNever, LoadFindsNothing, PoolTooSmallWhen, SoundKept, HeldUntilPowerCycle, ControllerResetKeeps}
+use Rattle.rules.specs.Promises.{PowerCycleLocks}
+use Rattle.rules.proofs.ChecksLaws.{judged-append, judged-pass, by-verdict}
 use Rattle.rules.proofs.StateLaws as state
 use Rattle.rules.proofs.StateLaws.{done, accepted-not, is-namespace}
 use Rattle.rules.proofs.SlotsLaws.{held-bytes}
 use Rattle.rules.proofs.EffectsLaws.{named-slot}
 use Rattle.rules.proofs.MarksLaws.{agrees, never-differs, same-differs, never-then, right-key-then, then-right-key}
-use Rattle.rules.proofs.StepLaws.{refused-or-taken, read-as, accepts-line, sound-step}
+use Rattle.rules.proofs.TakenLaws.{refused-or-taken, read-as, accepts-line, sound-step}
+use Rattle.rules.proofs.CallLaws.{callRule, outcome, call-obeys, call-unread, call-read, judgedOnce, session-judged, session-unread, session-ran}
 use Rattle.rules.proofs.PoolLaws.{pool-too-small}
 use Rattle.rules.proofs.LocksLaws.{held-effect}
-use Rattle.rules.proofs.HistoryLaws.{Kept, kept-after, named-key}
+use Rattle.rules.proofs.HistoryLaws.{Kept, kept, named-key}
 
 -- ------------------------------------------------------------------------
--- Every state, every line
+-- Calls
 
-pub refused-when : RefusedWhen
-refused-when s line r = state.refused-when s (lineRule s line) r (accepts-line s line)
+pub refused-when : RefusedWhen Calls
+unfolding callRule
+refused-when s line out o l r =
+    let e = ap (λ (x : Called). x .answer) l ∙ ap (λ (x : Outcome). x .answer) (call-obeys s line out) in
+    let w = state.refused-when s (callRule s line out) r (accepts-line s line) in
+    (λ p. w .0 (sym e ∙ p), λ f. e ∙ w .1 f)
 
-pub refused-keeps : RefusedKeeps
-refused-keeps s line r e = state.refused-keeps s (lineRule s line) r (accepts-line s line) e
+pub done-when : DoneWhen Calls
+unfolding callRule
+done-when s line out o l p =
+    let e = ap outcome l ∙ call-obeys s line out ∙ judged-pass (checksOf s line out) (refuse s) (done (lineRule s line)) p in
+    (ap (λ (x : Outcome). x .answer) e, ap (λ (x : Outcome). x .state) e)
 
-pub sound-kept : SoundKept
-sound-kept s line sized sound = sound-step s line sized sound
+pub refused-keeps : RefusedKeeps Calls
+unfolding callRule
+refused-keeps s line out o l r p =
+    let e = ap outcome l ∙ call-obeys s line out in
+    ap (λ (x : Outcome). x .state) e
+    ∙ state.refused-keeps s (callRule s line out) r (accepts-line s line) (sym (ap (λ (x : Outcome). x .answer) e) ∙ p)
 
-pub call-refused-keeps : CallRefusedKeeps
-unfolding call
-call-refused-keeps s line out r e =
+pub writes : Writes Calls
+unfolding unanswered answered
+writes s line out o l =
     ⊎-elim
-    (λ f. ap (λ (x : Called). x .state) (f .1))
-    (λ p. ap (λ (x : Called). x .state) (p .1) ∙ refused-keeps s line r (sym (ap (λ (x : Called). x .answer) (p .1)) ∙ e))
-    (judged-cases (callChecks s (roomFor line) out) (kept s out) (told s line out))
-  where
-    kept : State → List ℕ → Refusal → Called
-    kept s out r = record { answer = Refused r; state = s; bytes = 0; out = out }
+    (λ f. inl (rw (l ∙ call-unread s line out (f .0) (f .1 .0)) ((f .0, (f .1 .0, refl)), (refl, refl))))
+    (λ p. inr (p .0, rw (l ∙ call-read s line out (p .0)) (refl, refl)))
+    (by-verdict (callChecks s (roomFor line) out) Refused Done)
 
-    told : State → List ℕ → List ℕ → Called
-    told s line out =
-        let text = answerLine (step s line .answer) in
-        record { answer = step s line .answer; state = step s line .state; bytes = length text; out = written text out }
+-- ------------------------------------------------------------------------
+-- Sessions
 
-pub session-refused-keeps : SessionRefusedKeeps
-unfolding session
-session-refused-keeps s text out r e =
-    ⊎-elim
-    (λ f. f .1 ∙ ap (kept s out) (refusal (f .0) (sym (ap (λ (x : Session). x .result) (f .1)) ∙ e)))
-    (λ p. absurd (accepted-not Done r refl (sym (ap (λ (x : Session). x .result) (p .1)) ∙ e)))
-    (judged-cases (callChecks s (roomForAll (linesOf text)) out) (kept s out) (told s text out))
-  where
-    kept : State → List ℕ → Refusal → Session
-    kept s out r = record { result = Refused r; state = s; lines = 0; bytes = 0; out = out }
+pub session-refused-when : SessionRefusedWhen Sessions
+session-refused-when s text out o l r =
+    let cs = sessionChecks s text out in
+    let e = ap (λ (x : Session). x .result) l ∙ session-judged s text out in
+    let w = state.refused-when s (judgedOnce s cs) r refl in
+    (λ p. w .0 (sym e ∙ p), λ f. e ∙ w .1 f)
 
-    told : State → List ℕ → List ℕ → Session
-    told s text out =
-        let answers = answerLines s (linesOf text) in
-        record { result = Done; state = endState s (linesOf text); lines = length (linesOf text); bytes = length answers; out = written answers out }
+pub session-refused-keeps : SessionRefusedKeeps Sessions
+unfolding noSession
+session-refused-keeps s text out o l r p = l ∙ session-unread s text out r (session-refused-when s text out o l r .0 p)
 
-    refusal : (a : Refusal) → Refused a ≡ Refused r → a ≡ r
-    refusal a e = cc
+pub session-answers : SessionAnswers Sessions
+unfolding allAnswered
+session-answers s text out o l p = rw (l ∙ session-ran s text out p) (refl, (refl, (refl, (refl, refl))))
 
 -- ------------------------------------------------------------------------
 -- Slots
 
-pub slot-as-told : SlotAsTold
-slot-as-told lines ns tag is =
-    let k = kept-after lines in
-    ap held (k .slots ns tag is) ∙ held-bytes (holds ns tag (history lines)) (k .fit ns tag)
+pub sound-kept : SoundKept
+sound-kept s line sized sound = sound-step s line sized sound
 
-held-is : (c uid key : List ℕ) → held c ≡ holding uid key → (loaded c ≡ true) × ((uidOf c ≡ uid) × (keyOf c ≡ key))
+pub never-unsound : NeverUnsound FromFresh
+never-unsound h s led = kept h s led .sound
+
+pub slot-as-told : SlotAsTold FromFresh
+slot-as-told h s led ns tag is =
+    let k = kept h s led in
+    ap held (k .slots ns tag is) ∙ held-bytes (holds ns tag h) (k .fit ns tag)
+
+held-is : (c : List ℕ) (x : Contents) → held c ≡ holding x → (loaded c ≡ true) × ((uidOf c ≡ x .uid) × (keyOf c ≡ x .key))
 unfolding held
-held-is c uid key e = by (empty c) refl e
+held-is c x e = by (empty c) refl e
   where
-    by : (b : Bool) → empty c ≡ b → cond b nothing (holding (uidOf c) (keyOf c)) ≡ holding uid key → (loaded c ≡ true) × ((uidOf c ≡ uid) × (keyOf c ≡ key))
+    by : (b : Bool) → empty c ≡ b → cond b nothing (holding (contentsOf c)) ≡ holding x → (loaded c ≡ true) × ((uidOf c ≡ x .uid) × (keyOf c ≡ x .key))
     by true p q = absurd (let z : _≡_ {A = ℕ} 0 1 = cc in omega arith)
-    by false p q = (ap not p, (cc, cc))
+    by false p q = let z : contentsOf c ≡ x = cc in (ap not p, (ap (λ (y : Contents). y .uid) z, ap (λ (y : Contents). y .key) z))
 
-pub one-key-for-a-key-uid : OneKeyForAKeyUid
-one-key-for-a-key-uid lines ns ns′ tag tag′ uid key key′ is is′ e e′ =
-    let a = held-is (slot (after lines) ns tag) uid key e in
-    let b = held-is (slot (after lines) ns′ tag′) uid key′ e′ in
-    sym (a .1 .1) ∙ kept-after lines .apart ns ns′ tag tag′ is is′ (a .0) (b .0) (a .1 .0 ∙ sym (b .1 .0)) ∙ b .1 .1
+pub one-key-for-a-key-uid : OneKeyForAKeyUid FromFresh
+one-key-for-a-key-uid h s led ns ns′ tag tag′ x y is is′ e e′ u =
+    let a = held-is (slot s ns tag) x e in
+    let b = held-is (slot s ns′ tag′) y e′ in
+    sym (a .1 .1) ∙ kept h s led .apart ns ns′ tag tag′ is is′ (a .0) (b .0) (a .1 .0 ∙ u ∙ sym (b .1 .0)) ∙ b .1 .1
 
 empty-held : (c : List ℕ) → loaded c ≡ false → held c ≡ nothing
 unfolding held
 empty-held c e = rw (not-false (empty c) e)
 
-loads-empty : (s : State) (h : List Event) → Kept s h → (ns : Namespace) (tag : Tag) (uid key : List ℕ) → AllPass (frameRule s (load ns tag uid key) .checks) → holds ns tag h ≡ nothing
+loads-empty : (s : State) (h : List Event) → Kept s h → (ns : Namespace) (tag : Tag) (x : Contents) → AllPass (frameRule s (load ns tag x) .checks)
+    → holds ns tag h ≡ nothing
 unfolding frameRule order.load
-loads-empty s h k ns tag uid key p =
+loads-empty s h k ns tag x p =
     let is = named-slot s (k .sound) ns tag (is-namespace ns (p .0)) (p .1 .1 .0) in
     sym (held-bytes (holds ns tag h) (k .fit ns tag)) ∙ ap held (sym (k .slots ns tag is)) ∙ empty-held (slot s ns tag) (p .1 .1 .1 .0)
 
-pub load-finds-nothing : LoadFindsNothing
-load-finds-nothing lines line ns tag uid key is acc =
+pub load-finds-nothing : LoadFindsNothing Steps
+load-finds-nothing h s line answer (led, e) ns tag x is acc =
     ⊎-elim
-    (λ r. absurd (accepted-not (step (after lines) line .answer) (r .0) acc (ap (λ o. o .answer) (r .1))))
-    (λ t. loads-empty (after lines) (history lines) (kept-after lines) ns tag uid key (rw (← is) (t .passes)))
-    (refused-or-taken (after lines) line)
+    (λ r. absurd (accepted-not answer (r .0) acc (e ∙ ap (λ o. o .answer) (r .1))))
+    (λ t. loads-empty s h (kept h s led) ns tag x (rw (← is) (t .passes)))
+    (refused-or-taken s line)
 
-pub count-as-told : CountAsTold
-count-as-told lines ns is = kept-after lines .counts ns is
+pub count-as-told : CountAsTold FromFresh
+count-as-told h s led ns is = kept h s led .counts ns is
 
-pub pool-too-small-when : PoolTooSmallWhen
+pub pool-too-small-when : PoolTooSmallWhen Steps
 unfolding frameRule
-pool-too-small-when lines line ns tags r =
-    rw (read-as (after lines) line (manage ns tags) r) (pool-too-small (after lines) (history lines) (kept-after lines) ns tags)
+pool-too-small-when h s line answer (led, e) ns tags r =
+    rw (e, read-as s line (manage ns tags) r) (pool-too-small s h (kept h s led) ns tags)
 
 -- ------------------------------------------------------------------------
 -- Boot locks
@@ -172,18 +187,20 @@ last-part xs ys zs false r f o m e p q = absurd (true≢false (sym m))
 mark-check : (s : State) (c : Command) → isReading c ≡ true → managed s (c .ns) ≡ true → AllPass (commandChecks c) → AllPass (keyChecks s c)
     → obey s (frameRule s (io c)) ≡ judged (markCheck s c) (refuse s) (done (frameRule s (io c)))
 unfolding frameRule order.command
-mark-check s c r m p q = last-part (commandChecks c) (keyChecks s c) (markCheck s c) (managed s (c .ns)) (isReading c) (refuse s) (done (frameRule s (io c))) m r p q
+mark-check s c r m p q =
+    last-part (commandChecks c) (keyChecks s c) (markCheck s c) (managed s (c .ns)) (isReading c) (refuse s) (done (frameRule s (io c))) m r p q
 
 done-io : (s : State) (c : Command) → frameRule s (io c) .answer ≡ Done
 unfolding frameRule order.command
 done-io s c = refl
 
-done-when : (s : State) (b : Bool) (o : Outcome) → o .answer ≡ Done → (judged (00·28 when b ∷ []) (refuse s) o .answer ≡ Done) ↔ (b ≡ false)
-done-when s true o e = (λ q. absurd (accepted-not Done 00·28 refl (sym q)), λ q. absurd (true≢false q))
-done-when s false o e = (λ q. refl, λ q. e)
+passes-when : (s : State) (b : Bool) (o : Outcome) → o .answer ≡ Done → (judged (00·28 when b ∷ []) (refuse s) o .answer ≡ Done) ↔ (b ≡ false)
+passes-when s true o e = (λ q. absurd (accepted-not Done 00·28 refl (sym q)), λ q. absurd (true≢false q))
+passes-when s false o e = (λ q. refl, λ q. e)
 
 -- a block's mark against the key that the command names, in terms of the history
-module _ (s : State) (h : List Event) (k : Kept s h) (c : Command) (is : IsNamespace (c .ns)) (m : managed s (c .ns) ≡ true) (p : AllPass (keyChecks s c)) (block : ℕ) (inside : block < blocksEach) where
+module _ (s : State) (h : List Event) (k : Kept s h) (c : Command) (is : IsNamespace (c .ns)) (m : managed s (c .ns) ≡ true)
+    (p : AllPass (keyChecks s c)) (block : ℕ) (inside : block < blocksEach) where
   abbrev last : Held
   last = lastWritten (c .ns) block h
 
@@ -210,11 +227,9 @@ module _ (s : State) (h : List Event) (k : Kept s h) (c : Command) (is : IsNames
       (λ q. same-differs now (mark s (c .ns) block) (mark-is ∙ q ∙ sym key-is))
       d
 
-pub same-identity-or-never : SameIdentityOrNever
-same-identity-or-never lines line c reach =
-    let s : State = after lines in
-    let h = history lines in
-    let k = kept-after lines in
+pub same-identity-or-never : SameIdentityOrNever Steps
+same-identity-or-never h s line answer (led, is-answer) c reach =
+    let k = kept h s led in
     let m = reach .1 .1 .0 in
     let opens = reach .1 .1 .1 .0 in
     let key = reach .1 .1 .1 .1 in
@@ -222,9 +237,10 @@ same-identity-or-never lines line c reach =
     let range : c .first + c .more + 1 ≤ blocksEach = ltb-false blocksEach _ (opens .1 .1 .0) in
     let inside : (block : ℕ) → covers c block ≡ true → block < blocksEach =
     (λ block v. let hi : block ≤ c .first + c .more = leb-true _ _ (and-right (leb (c .first) block) _ v) in omega arith) in
-    let answer : step s line ≡ judged (markCheck s c) (refuse s) (done (frameRule s (io c))) =
+    let came : step s line ≡ judged (markCheck s c) (refuse s) (done (frameRule s (io c))) =
     read-as s line (io c) (reach .0) ∙ mark-check s c (reach .1 .0) m opens key in
-    let passing = done-when s (wrongKey s c) (done (frameRule s (io c))) (done-io s c) in (
-      λ e block v. agrees-then s h k c is m key block (inside block v) (right-key-then s c (passing .0 (ap (λ o. o .answer) (sym answer) ∙ e)) block v),
-      λ d. ap (λ o. o .answer) answer ∙ passing .1 (then-right-key s c (λ block v. then-agrees s h k c is m key block (inside block v) (d block v))),
+    let passing = passes-when s (wrongKey s c) (done (frameRule s (io c))) (done-io s c) in (
+      λ e block v. agrees-then s h k c is m key block (inside block v)
+          (right-key-then s c (passing .0 (ap (λ o. o .answer) (sym came) ∙ (sym is-answer ∙ e))) block v),
+      λ d. is-answer ∙ ap (λ o. o .answer) came ∙ passing .1 (then-right-key s c (λ block v. then-agrees s h k c is m key block (inside block v) (d block v))),
     )

@@ -9,15 +9,15 @@ use lib.ListN.{length, take, length-append}
 use lib.Seq.{take-at, drop-at}
 use borrow.Author.Tests.{ne-eqb}
 use Rattle.cells.specs.Cells.{part, zeros}
-use Rattle.cells.specs.Tests.{same}
+use Rattle.cells.specs.Predicates.{same}
 use Rattle.cells.proofs.CellsLaws.{length-zeros}
-use Rattle.cells.proofs.TestsLaws.{same-refl, same-eq, none-then}
+use Rattle.cells.proofs.PredicatesLaws.{same-refl, same-eq, none-then}
 use Rattle.rules.specs.declared.Namespace.{Namespace}
 use Rattle.rules.specs.declared.Tag.{Tag}
 use Rattle.rules.specs.Numbers.{tagsMost, uidMost, keySize, slotWidth, slotPlaces}
 use Rattle.rules.specs.State.{State}
-use Rattle.rules.specs.Slots.{placeOf, namespaceAt, tagAt, slot, padded, slotBytes, emptied, uidLength, empty, loaded, uidOf, keyOf, Held, nothing, holding, held, otherKeyIn, otherKey, FitKey}
-use Rattle.rules.specs.Promises.{IsSlot}
+use Rattle.rules.specs.Slots.{Contents, placeOf, namespaceAt, tagAt, slot, padded, slotBytes, emptied, uidLength, empty, loaded, uidOf, keyOf}
+use Rattle.rules.specs.Slots.{Held, nothing, holding, held, otherKeyIn, otherKey, FitKey, IsSlot}
 
 -- ------------------------------------------------------------------------
 -- Places
@@ -44,51 +44,53 @@ pub length-padded : (n : ℕ) (xs : List ℕ) → length xs ≤ n → length (pa
 unfolding padded
 length-padded n xs h = simp (length-append, length-zeros) (omega arith)
 
-module _ (uid key : List ℕ) (fit : FitKey uid key) where
-  uid-short : length uid ≤ uidMost
+module _ (x : Contents) (fit : FitKey x) where
+  uid-short : length (x .uid) ≤ uidMost
   uid-short = fit .short
 
-  pub length-slot : length (slotBytes uid key) ≡ slotWidth
+  pub length-slot : length (slotBytes x) ≡ slotWidth
   unfolding slotBytes
-  length-slot = simp length-append (omega (arith, length-padded uidMost uid uid-short, fit .whole))
+  length-slot = simp length-append (omega (arith, length-padded uidMost (x .uid) uid-short, fit .whole))
 
-  pub uid-stored : uidOf (slotBytes uid key) ≡ uid
+  pub uid-stored : uidOf (slotBytes x) ≡ x .uid
   unfolding uidOf slotBytes part padded
-  uid-stored = ap (take (length uid)) (append-assoc uid (zeros (uidMost - length uid)) key) ∙ take-at uid _ (length uid) refl
+  uid-stored =
+      ap (take (length (x .uid))) (append-assoc (x .uid) (zeros (uidMost - length (x .uid))) (x .key))
+      ∙ take-at (x .uid) _ (length (x .uid)) refl
 
-  pub key-stored : keyOf (slotBytes uid key) ≡ key
+  pub key-stored : keyOf (slotBytes x) ≡ x .key
   unfolding keyOf slotBytes part
   key-stored =
-      ap (take keySize) (drop-at (padded uidMost uid) key uidMost (length-padded uidMost uid uid-short))
-      ∙ (rw (← fit .whole) (lib.Seq.take-length key))
+      ap (take keySize) (drop-at (padded uidMost (x .uid)) (x .key) uidMost (length-padded uidMost (x .uid) uid-short))
+      ∙ (rw (← fit .whole) (lib.Seq.take-length (x .key)))
 
-  pub uid-length : uidLength (slotBytes uid key) ≡ length uid
+  pub uid-length : uidLength (slotBytes x) ≡ length (x .uid)
   unfolding slotBytes
   uid-length = refl
 
-  pub loaded-stored : empty (slotBytes uid key) ≡ false
+  pub loaded-stored : empty (slotBytes x) ≡ false
   unfolding slotBytes
-  loaded-stored = let s = fit .some in ne-eqb (length uid) 0 (λ e. omega arith)
+  loaded-stored = let s = fit .some in ne-eqb (length (x .uid)) 0 (λ e. omega arith)
 
 -- ------------------------------------------------------------------------
 -- What is held, as bytes
 
 abbrev pub bytesOf : Held → List ℕ
 bytesOf nothing = emptied
-bytesOf (holding uid key) = slotBytes uid key
+bytesOf (holding x) = slotBytes x
 
 abbrev pub FitHeld : Held → Type 0
 FitHeld nothing = Unit {0}
-FitHeld (holding uid key) = FitKey uid key
+FitHeld (holding x) = FitKey x
 
 pub held-bytes : (x : Held) → FitHeld x → held (bytesOf x) ≡ x
 unfolding held zeros
 held-bytes nothing f = refl
-held-bytes (holding uid key) f = rw (loaded-stored uid key f, uid-stored uid key f, key-stored uid key f)
+held-bytes (holding x) f = rw (loaded-stored x f, uid-stored x f, key-stored x f)
 
 pub length-bytes : (x : Held) → FitHeld x → length (bytesOf x) ≡ slotWidth
 length-bytes nothing f = length-zeros slotWidth
-length-bytes (holding uid key) f = length-slot uid key f
+length-bytes (holding x) f = length-slot x f
 
 -- ------------------------------------------------------------------------
 -- 07 0C: where it passes, a loaded slot with this KeyUID has this key
@@ -99,14 +101,14 @@ no-other true true false e p q = absurd (true≢false e)
 no-other true false k e p q = absurd (true≢false (sym q))
 no-other false u k e p q = absurd (true≢false (sym p))
 
-pub same-key : (uid key c : List ℕ) → otherKeyIn uid key c ≡ false → loaded c ≡ true → uidOf c ≡ uid → keyOf c ≡ key
+pub same-key : (x : Contents) (c : List ℕ) → otherKeyIn x c ≡ false → loaded c ≡ true → uidOf c ≡ x .uid → keyOf c ≡ x .key
 unfolding otherKeyIn
-same-key uid key c e l u =
-    same-eq (keyOf c) key (no-other (loaded c) (same (uidOf c) uid) (same (keyOf c) key) e l (rw u (same-refl uid)))
+same-key x c e l u =
+    same-eq (keyOf c) (x .key) (no-other (loaded c) (same (uidOf c) (x .uid)) (same (keyOf c) (x .key)) e l (rw u (same-refl (x .uid))))
 
-pub no-other-key : (s : State) (uid key : List ℕ) → otherKey (s .keys) uid key ≡ false → (ns : Namespace) (tag : Tag) → IsSlot ns tag
-    → otherKeyIn uid key (slot s ns tag) ≡ false
+pub no-other-key : (s : State) (x : Contents) → otherKey (s .keys) x ≡ false → (ns : Namespace) (tag : Tag) → IsSlot ns tag
+    → otherKeyIn x (slot s ns tag) ≡ false
 unfolding otherKey
-no-other-key s uid key e ns tag is =
+no-other-key s x e ns tag is =
     let z : 0 + placeOf ns tag ≡ placeOf ns tag = omega arith in
-    rw z at (none-then slotWidth (λ place c. otherKeyIn uid key c) slotPlaces 0 (s .keys) e (placeOf ns tag) (place-small ns tag is))
+    rw z at (none-then slotWidth (λ place c. otherKeyIn x c) slotPlaces 0 (s .keys) e (placeOf ns tag) (place-small ns tag is))

@@ -9,18 +9,17 @@ use native.Mathlib.Numerals.{one-add, add-one}
 use lib.ListN.{length, getD, set, take, drop, drop-of-length-le}
 use lib.Seq.{take-at, drop-at, drop-cons}
 use lib.Dec.{ltb}
-use borrow.Author.Tests.{lt-ltb, le-ltb, ltb-false}
+use borrow.Author.Tests.{lt-ltb, le-ltb, ltb-false, eq-eqb, eqb-true, not-false}
 use Rattle.cells.specs.Cells.{part, cell, zeros}
-use Rattle.cells.specs.Tests.{allZero, someCell}
+use Rattle.cells.specs.Predicates.{allZero, someCell}
 use Rattle.cells.proofs.CellsLaws.{length-zeros}
-use Rattle.cells.proofs.TestsLaws.{or-left, or-right, neither, none-then, then-none, allZero-zeros, allZero-eq}
+use Rattle.cells.proofs.PredicatesLaws.{or-left, or-right, neither, none-then, then-none, allZero-zeros, allZero-eq}
 use Rattle.rules.specs.declared.Namespace.{Namespace}
 use Rattle.rules.specs.declared.Tag.{Tag}
-use Rattle.rules.specs.Numbers.{poolSlots, tagsMost, uidMost, slotWidth, slotPlaces}
-use Rattle.rules.specs.State.{State, tagAbove, total}
-use Rattle.rules.specs.Slots.{placeOf, namespaceAt, tagAt, slot, padded, slotBytes, emptied, uidLength, empty, loaded, FitKey}
+use Rattle.rules.specs.Numbers.{poolSlots, tagsMost, uidMost, slotWidth, slotPlaces, cacheSize}
+use Rattle.rules.specs.State.{State, wrongCache, tagAbove, total}
+use Rattle.rules.specs.Slots.{Contents, placeOf, namespaceAt, tagAt, slot, padded, slotBytes, emptied, uidLength, empty, loaded, FitKey, IsSlot}
 use Rattle.rules.specs.Sound.{someAbove, afterUid, slotUnsound, unsound}
-use Rattle.rules.specs.Promises.{IsSlot}
 use Rattle.rules.proofs.SlotsLaws.{place-small, slot-at, place-at, namespace-back, tag-back, uid-length, loaded-stored}
 
 -- ------------------------------------------------------------------------
@@ -68,24 +67,25 @@ unfolding slotUnsound allZero zeros
 sound-emptied true = refl
 sound-emptied false = refl
 
-pad-stored : (uid key : List ℕ) → FitKey uid key → afterUid (slotBytes uid key) ≡ zeros (uidMost - length uid)
+pad-stored : (x : Contents) → FitKey x → afterUid (slotBytes x) ≡ zeros (uidMost - length (x .uid))
 unfolding slotBytes padded part
-pad-stored uid key fit =
+pad-stored x fit =
+    let uid : List ℕ = x .uid in
     let z : List ℕ = zeros (uidMost - length uid) in
     ap (take (uidMost - length uid))
-    (rw one-add (ap (drop (length uid)) (mathlib.Core.List.append-assoc uid z key) ∙ drop-at uid (z ++ key) (length uid) refl))
-    ∙ take-at z key (uidMost - length uid) (length-zeros _)
+    (rw one-add (ap (drop (length uid)) (mathlib.Core.List.append-assoc uid z (x .key)) ∙ drop-at uid (z ++ x .key) (length uid) refl))
+    ∙ take-at z (x .key) (uidMost - length uid) (length-zeros _)
 
 passes : (e a b z : Bool) → e ≡ false → a ≡ false → b ≡ true → not e && false || not e && a || not e && not b || e && z ≡ false
 passes e a b z p q r = rw (p, q, r)
 
-pub sound-stored : (uid key : List ℕ) → FitKey uid key → slotUnsound false (slotBytes uid key) ≡ false
+pub sound-stored : (x : Contents) → FitKey x → slotUnsound false (slotBytes x) ≡ false
 unfolding slotUnsound
-sound-stored uid key fit =
-    passes (empty (slotBytes uid key)) _ _ _
-    (loaded-stored uid key fit)
-    (rw (uid-length uid key fit) (le-ltb uidMost (length uid) (fit .short)))
-    (ap allZero (pad-stored uid key fit) ∙ allZero-zeros _)
+sound-stored x fit =
+    passes (empty (slotBytes x)) _ _ _
+    (loaded-stored x fit)
+    (rw (uid-length x fit) (le-ltb uidMost (length (x .uid)) (fit .short)))
+    (ap allZero (pad-stored x fit) ∙ allZero-zeros _)
 
 neither-not : (a b : Bool) → a && not b ≡ false → a ≡ true → b ≡ true
 neither-not true true e p = refl
@@ -99,11 +99,15 @@ not-and-true false p = absurd (true≢false p)
 module _ (c : List ℕ) where
   unallocated-empty : slotUnsound true c ≡ false → empty c ≡ true
   unfolding slotUnsound
-  unallocated-empty e = not-and-true (empty c) (or-left (loaded c && true) _ (or-left _ (loaded c && not (allZero (afterUid c))) (or-left _ (empty c && not (allZero c)) e)))
+  unallocated-empty e =
+      not-and-true (empty c)
+      (or-left (loaded c && true) _ (or-left _ (loaded c && not (allZero (afterUid c))) (or-left _ (empty c && not (allZero c)) e)))
 
   pub empty-zero : (unallocated : Bool) → slotUnsound unallocated c ≡ false → empty c ≡ true → length c ≡ slotWidth → c ≡ emptied
   unfolding slotUnsound
-  empty-zero u e p l = allZero-eq c slotWidth l (neither-not (empty c) (allZero c) (or-right (loaded c && u || loaded c && ltb uidMost (uidLength c) || loaded c && not (allZero (afterUid c))) _ e) p)
+  empty-zero u e p l =
+      allZero-eq c slotWidth l
+      (neither-not (empty c) (allZero c) (or-right (loaded c && u || loaded c && ltb uidMost (uidLength c) || loaded c && not (allZero (afterUid c))) _ e) p)
 
   pub unallocated-zero : slotUnsound true c ≡ false → length c ≡ slotWidth → c ≡ emptied
   unallocated-zero e l = empty-zero true e (unallocated-empty e) l
@@ -142,34 +146,44 @@ module _ (s : State) where
       ap (λ n. slotUnsound (tagAbove s n (tagAt (placeOf ns tag))) c) (namespace-back ns tag is)
       ∙ ap (λ t. slotUnsound (tagAbove s ns t) c) (tag-back ns tag is)
 
+  abbrev someCount : Bool
+  someCount = someAbove tagsMost (s .registers .counts)
+
+  abbrev overPool : Bool
+  overPool = ltb poolSlots (total (s .registers .counts))
+
   module _ (sound : unsound s ≡ false) where
-    in-order : someAbove tagsMost (s .drive .counts) || ltb poolSlots (total (s .drive .counts)) || someSlot ≡ false
+    in-order : wrongCache (s .keys) || someCount || overPool || someSlot ≡ false
     unfolding unsound
     in-order = sound
 
-    counts-first : someAbove tagsMost (s .drive .counts) || ltb poolSlots (total (s .drive .counts)) ≡ false
-    counts-first = or-left _ someSlot in-order
+    counts-first : wrongCache (s .keys) || someCount ≡ false
+    counts-first = or-left _ overPool (or-left _ someSlot in-order)
 
-    pub sound-counts : someAbove tagsMost (s .drive .counts) ≡ false
-    sound-counts = or-left _ (ltb poolSlots (total (s .drive .counts))) counts-first
+    pub sound-cache : length (s .keys) ≡ cacheSize
+    sound-cache = eqb-true (length (s .keys)) cacheSize (not-false _ (or-left _ someCount counts-first))
 
-    pub sound-total : total (s .drive .counts) ≤ poolSlots
-    sound-total = ltb-false poolSlots _ (or-right (someAbove tagsMost (s .drive .counts)) _ counts-first)
+    pub sound-counts : someAbove tagsMost (s .registers .counts) ≡ false
+    sound-counts = or-right (wrongCache (s .keys)) someCount counts-first
+
+    pub sound-total : total (s .registers .counts) ≤ poolSlots
+    sound-total = ltb-false poolSlots _ (or-right (wrongCache (s .keys) || someCount) overPool (or-left _ someSlot in-order))
 
     pub sound-slot : (ns : Namespace) (tag : Tag) → IsSlot ns tag → slotUnsound (tagAbove s ns tag) (slot s ns tag) ≡ false
     sound-slot ns tag is =
-        let none = or-right (someAbove tagsMost (s .drive .counts) || ltb poolSlots (total (s .drive .counts))) someSlot in-order in
+        let none = or-right (wrongCache (s .keys) || someCount || overPool) someSlot in-order in
         let z : 0 + placeOf ns tag ≡ placeOf ns tag = omega arith in
         sym (test-at ns tag is (slot s ns tag))
         ∙ (rw z at (none-then slotWidth test slotPlaces 0 (s .keys) none (placeOf ns tag) (place-small ns tag is)))
 
-  pub sound-from : someAbove tagsMost (s .drive .counts) ≡ false → total (s .drive .counts) ≤ poolSlots
+  pub sound-from : length (s .keys) ≡ cacheSize → someAbove tagsMost (s .registers .counts) ≡ false → total (s .registers .counts) ≤ poolSlots
       → ((ns : Namespace) (tag : Tag) → IsSlot ns tag → slotUnsound (tagAbove s ns tag) (slot s ns tag) ≡ false)
       → unsound s ≡ false
   unfolding unsound
-  sound-from a t h =
+  sound-from l a t h =
       let each : (k : ℕ) → k < slotPlaces → test k (cell slotWidth k (s .keys)) ≡ false =
       (λ k l. ap (λ i. test k (cell slotWidth i (s .keys))) (sym (place-at k)) ∙ h (namespaceAt k) (tagAt k) (slot-at k l)) in
       let z : (k : ℕ) → 0 + k ≡ k = (λ k. omega arith) in
       let none = then-none slotWidth test slotPlaces 0 (s .keys) (λ k l. rw (z k) (each k l)) in
-      neither _ someSlot (neither _ _ a (le-ltb poolSlots _ t)) none
+      let right : wrongCache (s .keys) ≡ false = ap not (eq-eqb (length (s .keys)) cacheSize l) in
+      neither _ someSlot (neither _ overPool (neither _ someCount right a) (le-ltb poolSlots _ t)) none

@@ -10,7 +10,7 @@ use native.Mathlib.Omega.{arith}
 use lib.ListN.{length, getD, set}
 use lib.Dec.{ltb}
 use borrow.Author.Tests.{eqb-true, eqb-false, ltb-false, not-false}
-use Rattle.cells.proofs.TestsLaws.{or-left, or-right}
+use Rattle.cells.proofs.PredicatesLaws.{or-left, or-right}
 use Rattle.rules.specs.declared.Namespace.{Namespace}
 use Rattle.rules.specs.declared.Tag.{Tag}
 use Rattle.rules.specs.declared.Refusal.{Refusal}
@@ -18,8 +18,8 @@ use Rattle.rules.specs.declared.Answer.{Answer}
 use Rattle.rules.specs.declared.Answer.the-variants.{Refused}
 use Rattle.rules.specs.Checks.{Verdict, passed, refused, firstRefusal, settle, AllPass, FirstToFail}
 use Rattle.rules.specs.Answers.{accepted}
-use Rattle.rules.specs.State.{State, Outcome, Rule, refuse, obey, namespace, keyTag, sameNamespace, sameTag, noNamespace, count, managed, total}
-use Rattle.rules.specs.Promises.{IsNamespace}
+use Rattle.rules.specs.State.{State, Outcome, Rule, refuse, obey, namespace, keyTag, sameNamespace, sameTag, noNamespace, IsNamespace, count}
+use Rattle.rules.specs.State.{managed, total}
 use Rattle.rules.proofs.ChecksLaws.{first-refusal, judged-cases}
 
 -- ------------------------------------------------------------------------

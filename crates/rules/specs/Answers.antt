@@ -3,10 +3,14 @@
 -- Assumes nothing.
 use mathlib.Core.Bool.{Bool, true, false, cond}
 use mathlib.Core.List.{List, [], _∷_, _++_}
-use Prim.Native.Nat.{ℕ, _+_, _/_, _%_}
+use Prim.Native.Nat.{ℕ, _+_, _/_, _%_, _^_, _<_}
 use lib.Dec.{ltb}
 use Rattle.rules.specs.declared.Refusal.{Refusal}
-use Rattle.rules.specs.declared.Refusal.the-variants.{InvalidOpcode, InvalidField, InvalidNamespace, InvalidKeyTag, IncorrectKey, BlocksOutOfRange, LockNotChangeable, BootWriteProhibited, NotAFrameLine, UnknownKind, WrongLength, BadKeyUidLength, AlreadyManaged, NotManaged, BadTagCount, PoolTooSmall, SlotOccupied, SlotEmpty, OtherOldKeyUid, OtherKey, WrongStore, UnsoundState, OutputTooShort}
+use Rattle.rules.specs.declared.Refusal.the-variants.{InvalidOpcode, InvalidField, InvalidNamespace, InvalidKeyTag, IncorrectKey}
+use Rattle.rules.specs.declared.Refusal.the-variants.{BlocksOutOfRange, LockNotChangeable, BootWriteProhibited, NotAFrameLine, UnknownKind}
+use Rattle.rules.specs.declared.Refusal.the-variants.{WrongLength, BadKeyUidLength, AlreadyManaged, NotManaged, BadTagCount, PoolTooSmall}
+use Rattle.rules.specs.declared.Refusal.the-variants.{SlotOccupied, SlotEmpty, OtherOldKeyUid, OtherKey, WrongStore, UnsoundState}
+use Rattle.rules.specs.declared.Refusal.the-variants.{OutputTooShort}
 use Rattle.rules.specs.declared.Answer.{Answer}
 use Rattle.rules.specs.declared.Answer.the-variants.{Done, LockStates, Refused}
 
@@ -49,10 +53,27 @@ accepted (Refused r) = false
 -- An answer's line: a status type byte, a status code byte and, for kind 09
 -- alone, 4 data bytes, the lowest first; uppercase digits and a line feed
 
+-- the data that a refusal carries: none today
+abbrev pub refusalData : Refusal → List ℕ
+refusalData r = []
+
+abbrev pub answerData : Answer → List ℕ
+answerData Done = []
+answerData (LockStates d) = d % 256 ∷ d / 256 % 256 ∷ d / 65536 % 256 ∷ d / 16777216 % 256 ∷ []
+answerData (Refused r) = refusalData r
+
 abbrev pub answerBytes : Answer → List ℕ
-answerBytes Done = 0 ∷ 0 ∷ []
-answerBytes (LockStates d) = 0 ∷ 0 ∷ d % 256 ∷ d / 256 % 256 ∷ d / 65536 % 256 ∷ d / 16777216 % 256 ∷ []
-answerBytes (Refused r) = refusalNumber r / 256 ∷ refusalNumber r % 256 ∷ []
+answerBytes a = number a / 256 ∷ number a % 256 ∷ answerData a
+
+-- the data fits the bytes that it is said in
+abbrev pub Sayable : Answer → Type 0
+Sayable Done = Unit {0}
+Sayable (LockStates d) = d < 2 ^ 32
+Sayable (Refused r) = Unit {0}
+
+abbrev pub AllSayable : List Answer → Type 0
+AllSayable [] = Unit {0}
+AllSayable (a ∷ more) = Sayable a × AllSayable more
 
 abbrev pub lineFeed : ℕ
 lineFeed = 10

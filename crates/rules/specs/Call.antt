@@ -16,7 +16,7 @@ use Rattle.rules.specs.Sound.{unsound}
 use Rattle.rules.specs.Order.{step}
 
 -- the output bytes that a line's answer may need
-abbrev pub roomFor : List ℕ → ℕ
+unfoldable pub roomFor : List ℕ → ℕ
 roomFor line = answerMost
 
 abbrev pub callChecks : State → ℕ → List ℕ → List (Check Refusal)
@@ -37,10 +37,14 @@ pub record Called : Type 0 where
   pub bytes : ℕ
   pub out : List ℕ
 
-unfoldable pub call : State → List ℕ → List ℕ → Called
-call s line out =
+unfoldable pub unanswered : State → List ℕ → Refusal → Called
+unanswered s out r = record { answer = Refused r; state = s; bytes = 0; out = out }
+
+unfoldable pub answered : State → List ℕ → List ℕ → Called
+answered s line out =
     let o = step s line in
     let text = answerLine (o .answer) in
-    judged (callChecks s (roomFor line) out)
-    (λ r. record { answer = Refused r; state = s; bytes = 0; out = out })
-    (record { answer = o .answer; state = o .state; bytes = length text; out = written text out })
+    record { answer = o .answer; state = o .state; bytes = length text; out = written text out }
+
+unfoldable pub call : State → List ℕ → List ℕ → Called
+call s line out = judged (callChecks s (roomFor line) out) (unanswered s out) (answered s line out)

@@ -1,12 +1,11 @@
 -- "The frame line": 2 to 140 digits from 0-9 and A-F, even in number, without
--- the line feed; two digits a byte. Numbers of several bytes are little-endian.
+-- the line feed; two digits a byte.
 -- Assumes nothing.
 use mathlib.Core.Bool.{Bool, true, false, _&&_, _||_, cond}
 use mathlib.Core.List.{List, [], _∷_}
-use Prim.Native.Nat.{ℕ, suc, _+_, _-_, _*_, _/_, _%_, _^_}
-use lib.ListN.{length, getD}
+use Prim.Native.Nat.{ℕ, suc, _+_, _-_, _*_, _/_, _%_}
+use lib.ListN.{length}
 use lib.Dec.{eqb, leb, ltb}
-use Rattle.cells.specs.Cells.{part}
 use Rattle.rules.specs.declared.LineRead.{LineRead}
 use Rattle.rules.specs.declared.LineRead.the-variants.{Bytes, Empty, TooLong, BadDigit, Odd}
 use Rattle.rules.specs.Numbers.{digitsMost}
@@ -50,24 +49,3 @@ isBytes Odd = false
 
 abbrev pub isFrameLine : List ℕ → Bool
 isFrameLine line = isBytes (readLine line)
-
--- ------------------------------------------------------------------------
--- Numbers in a run of bytes
-
-abbrev pub byte : ℕ → List ℕ → ℕ
-byte i f = getD f i 0
-
-unfoldable pub little : List ℕ → ℕ
-little [] = 0
-little (b ∷ bs) = b + 256 * little bs
-
--- bytes a to z as one number
-abbrev pub bytes : ℕ → ℕ → List ℕ → ℕ
-bytes a z f = little (part a (z + 1 - a) f)
-
-abbrev pub dword : ℕ → List ℕ → ℕ
-dword n f = bytes (4 * n) (4 * n + 3) f
-
--- bits high:low of a number
-abbrev pub bits : ℕ → ℕ → ℕ → ℕ
-bits high low n = n / 2 ^ low % 2 ^ (high + 1 - low)

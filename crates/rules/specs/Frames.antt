@@ -14,14 +14,15 @@ use Rattle.rules.specs.declared.Command.{Command}
 use Rattle.rules.specs.Numbers.{uidMost, keySize}
 use Rattle.rules.specs.Checks.{Check, _when_}
 use Rattle.rules.specs.Answers.{07·02, 07·03, 07·04}
-use Rattle.rules.specs.FrameLine.{byte, bytes, dword, bits}
+use Rattle.rules.specs.Fields.{byte, bytes, dword, bits}
 use Rattle.rules.specs.State.{namespace, keyTag}
+use Rattle.rules.specs.Slots.{Contents}
 
 pub data Frame : Type 0 where
   manage : (ns : Namespace) (tags : ℕ) → Frame
   release : (ns : Namespace) → Frame
-  load : (ns : Namespace) (tag : Tag) (uid key : List ℕ) → Frame
-  replace : (ns : Namespace) (tag : Tag) (old uid key : List ℕ) → Frame
+  load : (ns : Namespace) (tag : Tag) (x : Contents) → Frame
+  replace : (ns : Namespace) (tag : Tag) (old : List ℕ) (x : Contents) → Frame
   clearOne : (ns : Namespace) (tag : Tag) → Frame
   clearAll : (ns : Namespace) → Frame
   io : (c : Command) → Frame
@@ -63,6 +64,10 @@ badUidLength l = eqb l 0 || ltb uidMost l
 abbrev pub tooShort : ℕ → List ℕ → Bool
 tooShort n f = ltb (length f) n
 
+-- a KeyUID of l bytes from a, and the key behind it
+abbrev pub contentsAt : ℕ → ℕ → List ℕ → Contents
+contentsAt a l f = record { uid = part a l f; key = part (a + l) keySize f }
+
 -- namespace 1, tag 2, L 1, KeyUID L, key 32
 unfoldable pub readLoad : List ℕ → Reading
 readLoad f =
@@ -73,7 +78,7 @@ readLoad f =
           ∷ 07·04 when badUidLength l
           ∷ 07·03 when not (eqb (length f) (5 + l + keySize))
           ∷ [];
-      frame = load (namespace (byte 1 f)) (keyTag (bytes 2 3 f)) (part 5 l f) (part (5 + l) keySize f);
+      frame = load (namespace (byte 1 f)) (keyTag (bytes 2 3 f)) (contentsAt 5 l f);
     }
 
 -- namespace 1, tag 2, O 1, old KeyUID O, L 1, new KeyUID L, key 32
@@ -89,7 +94,7 @@ readReplace f =
           ∷ 07·04 when badUidLength l
           ∷ 07·03 when not (eqb (length f) (6 + o + l + keySize))
           ∷ [];
-      frame = replace (namespace (byte 1 f)) (keyTag (bytes 2 3 f)) (part 5 o f) (part (6 + o) l f) (part (6 + o + l) keySize f);
+      frame = replace (namespace (byte 1 f)) (keyTag (bytes 2 3 f)) (part 5 o f) (contentsAt (6 + o) l f);
     }
 
 abbrev pub unknownKind : Reading

@@ -22,6 +22,12 @@ pub record Event : Type 0 where
 abbrev pub frameIn : Event → Frame
 frameIn e = frameOf (e .line)
 
+-- lines with their answers, in order, after an older history
+unfoldable pub told : List (List ℕ) → List Answer → List Event → List Event
+told [] answers older = older
+told (line ∷ lines) [] older = older
+told (line ∷ lines) (a ∷ more) older = told lines more (record { line = line; answer = a } ∷ older)
+
 -- ------------------------------------------------------------------------
 -- What a slot holds
 
@@ -29,8 +35,8 @@ frameIn e = frameOf (e .line)
 abbrev pub touches : Namespace → Tag → Frame → Bool
 touches ns tag (manage n tags) = sameNamespace ns n
 touches ns tag (release n) = sameNamespace ns n
-touches ns tag (load n t uid key) = sameNamespace ns n && sameTag tag t
-touches ns tag (replace n t old uid key) = sameNamespace ns n && sameTag tag t
+touches ns tag (load n t x) = sameNamespace ns n && sameTag tag t
+touches ns tag (replace n t old x) = sameNamespace ns n && sameTag tag t
 touches ns tag (clearOne n t) = sameNamespace ns n && sameTag tag t
 touches ns tag (clearAll n) = sameNamespace ns n
 touches ns tag (io c) = false
@@ -44,8 +50,8 @@ touches ns tag unknown = false
 abbrev pub leaves : Frame → Held
 leaves (manage n tags) = nothing
 leaves (release n) = nothing
-leaves (load n t uid key) = holding uid key
-leaves (replace n t old uid key) = holding uid key
+leaves (load n t x) = holding x
+leaves (replace n t old x) = holding x
 leaves (clearOne n t) = nothing
 leaves (clearAll n) = nothing
 leaves (io c) = nothing
@@ -75,8 +81,8 @@ covers c block = leb (c .first) block && leb block (c .first + c .more)
 abbrev pub writtenAfter : Namespace → ℕ → Frame → List Event → Held → Held
 writtenAfter ns block (manage n tags) older before = cond (sameNamespace ns n) nothing before
 writtenAfter ns block (release n) older before = before
-writtenAfter ns block (load n t uid key) older before = before
-writtenAfter ns block (replace n t old uid key) older before = before
+writtenAfter ns block (load n t x) older before = before
+writtenAfter ns block (replace n t old x) older before = before
 writtenAfter ns block (clearOne n t) older before = before
 writtenAfter ns block (clearAll n) older before = before
 writtenAfter ns block (io c) older before = cond (isWrite c && sameNamespace ns (c .ns) && covers c block) (holds ns (c .tag) older) before
@@ -99,8 +105,8 @@ lastWritten ns block (e ∷ older) =
 abbrev pub countAfter : Namespace → Frame → ℕ → ℕ
 countAfter ns (manage n tags) before = cond (sameNamespace ns n) tags before
 countAfter ns (release n) before = cond (sameNamespace ns n) 0 before
-countAfter ns (load n t uid key) before = before
-countAfter ns (replace n t old uid key) before = before
+countAfter ns (load n t x) before = before
+countAfter ns (replace n t old x) before = before
 countAfter ns (clearOne n t) before = before
 countAfter ns (clearAll n) before = before
 countAfter ns (io c) before = before

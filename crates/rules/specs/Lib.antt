@@ -2,6 +2,7 @@ pub mod Numbers
 pub mod Checks
 pub mod Answers
 pub mod FrameLine
+pub mod Fields
 pub mod State
 pub mod Slots
 pub mod Marks
@@ -15,4 +16,4 @@ pub mod Call
 pub mod Sessions
 pub mod History
 pub mod Promises
-pub mod Bench
+pub mod Examples

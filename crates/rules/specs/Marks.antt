@@ -8,7 +8,7 @@ use Prim.Native.Nat.{ℕ, _+_, _-_, _*_}
 use lib.ListN.{length, getD, take}
 use lib.Dec.{eqb}
 use Rattle.cells.specs.Cells.{cell, zeros}
-use Rattle.cells.specs.Tests.{same}
+use Rattle.cells.specs.Predicates.{same}
 use Rattle.rules.specs.declared.Namespace.{Namespace}
 use Rattle.rules.specs.Numbers.{blocksEach, identityMost, markWidth}
 use Rattle.rules.specs.State.{State}
@@ -29,7 +29,7 @@ neverWritten = zeros markWidth
 -- the mark that a write under this leaves
 abbrev pub identityOf : Held → List ℕ
 identityOf nothing = neverWritten
-identityOf (holding uid key) = keptIdentity uid
+identityOf (holding x) = keptIdentity (x .uid)
 
 -- a block that has been written and whose mark differs from this identity
 abbrev pub differs : List ℕ → List ℕ → Bool

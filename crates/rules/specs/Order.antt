@@ -2,21 +2,23 @@
 -- done if all pass.
 -- Assumes nothing.
 use mathlib.Core.Bool.{Bool, true, not, _&&_, _||_}
+use mathlib.Core.Path.{_≡_}
 use mathlib.Core.List.{List, [], _∷_, _++_}
 use Prim.Native.Nat.{ℕ, _+_}
 use lib.Dec.{eqb, ltb}
-use Rattle.cells.specs.Tests.{same, someCell}
+use Rattle.cells.specs.Predicates.{same, someCell}
 use Rattle.rules.specs.declared.Namespace.{Namespace}
 use Rattle.rules.specs.declared.Tag.{Tag}
 use Rattle.rules.specs.declared.Lock.the-variants.{WriteUnlocked}
 use Rattle.rules.specs.declared.Refusal.{Refusal}
 use Rattle.rules.specs.declared.Answer.the-variants.{Done, LockStates}
 use Rattle.rules.specs.Numbers.{blocksEach, poolSlots, tagsMost, markWidth}
-use Rattle.rules.specs.Checks.{Check, _when_, onlyIf}
-use Rattle.rules.specs.Answers.{00·01, 00·02, 00·0B, 00·25, 00·28, 00·80, 01·0E, 01·1E, 07·01, 07·02, 07·05, 07·06, 07·07, 07·08, 07·09, 07·0A, 07·0B, 07·0C}
+use Rattle.rules.specs.Checks.{Check, _when_, onlyIf, AllPass}
+use Rattle.rules.specs.Answers.{00·01, 00·02, 00·0B, 00·25, 00·28, 00·80, 01·0E, 01·1E, 07·01, 07·02, 07·05, 07·06, 07·07, 07·08, 07·09, 07·0A}
+use Rattle.rules.specs.Answers.{07·0B, 07·0C}
 use Rattle.rules.specs.FrameLine.{isFrameLine, decoded}
 use Rattle.rules.specs.State.{State, Outcome, Rule, obey, noNamespace, managed, tagAbove, total}
-use Rattle.rules.specs.Slots.{slot, empty, loaded, uidOf, held, otherKey}
+use Rattle.rules.specs.Slots.{Contents, slot, empty, loaded, uidOf, held, otherKey}
 use Rattle.rules.specs.Marks.{blockOf, identityOf, differs}
 use Rattle.rules.specs.Locks.{invalidFields, notChangeable, changed, shown, partition, bothLocked, sameLock}
 use Rattle.rules.specs.declared.Command.{Command}
@@ -31,7 +33,7 @@ manage s ns tags = record {
       00·0B when noNamespace ns
       ∷ 07·05 when managed s ns
       ∷ 07·07 when (eqb tags 0 || ltb tagsMost tags)
-      ∷ 07·08 when ltb poolSlots (total (s .drive .counts) + tags)
+      ∷ 07·08 when ltb poolSlots (total (s .registers .counts) + tags)
       ∷ [];
   answer = Done;
   effect = setCount s ns tags;
@@ -64,32 +66,32 @@ clearAll s ns = record {
 }
 
 -- load: 00 0B, 07 06, 00 25, 07 09, 07 0C
-unfoldable pub load : State → Namespace → Tag → List ℕ → List ℕ → Rule
-load s ns tag uid key = record {
+unfoldable pub load : State → Namespace → Tag → Contents → Rule
+load s ns tag x = record {
   checks =
       00·0B when noNamespace ns
       ∷ 07·06 when not (managed s ns)
       ∷ 00·25 when tagAbove s ns tag
       ∷ 07·09 when loaded (slot s ns tag)
-      ∷ 07·0C when otherKey (s .keys) uid key
+      ∷ 07·0C when otherKey (s .keys) x
       ∷ [];
   answer = Done;
-  effect = storeKey s ns tag uid key;
+  effect = storeKey s ns tag x;
 }
 
 -- replace: 00 0B, 07 06, 00 25, 07 0A, 07 0B, 07 0C. 07 0C also looks at the slot being replaced.
-unfoldable pub replace : State → Namespace → Tag → List ℕ → List ℕ → List ℕ → Rule
-replace s ns tag old uid key = record {
+unfoldable pub replace : State → Namespace → Tag → List ℕ → Contents → Rule
+replace s ns tag old x = record {
   checks =
       00·0B when noNamespace ns
       ∷ 07·06 when not (managed s ns)
       ∷ 00·25 when tagAbove s ns tag
       ∷ 07·0A when empty (slot s ns tag)
       ∷ 07·0B when not (same (uidOf (slot s ns tag)) old)
-      ∷ 07·0C when otherKey (s .keys) uid key  -- of every loaded slot, this one too
+      ∷ 07·0C when otherKey (s .keys) x  -- of every loaded slot, this one too
       ∷ [];
   answer = Done;
-  effect = storeKey s ns tag uid key;
+  effect = storeKey s ns tag x;
 }
 
 -- clear one: 00 0B, 07 06, 00 25, 07 0A
@@ -154,20 +156,20 @@ unfoldable pub setFeatures : State → ℕ → Rule
 setFeatures s dword11 = record {
   checks =
       00·02 when invalidFields dword11
-      ∷ 01·0E when notChangeable (s .drive .locks) dword11
+      ∷ 01·0E when notChangeable (s .registers .locks) dword11
       ∷ [];
   answer = Done;
-  effect = withLocks s (changed (s .drive .locks) dword11);
+  effect = withLocks s (changed (s .registers .locks) dword11);
 }
 
 unfoldable pub getFeatures : State → Rule
-getFeatures s = record { checks = []; answer = LockStates (shown (s .drive .locks)); effect = s }
+getFeatures s = record { checks = []; answer = LockStates (shown (s .registers .locks)); effect = s }
 
 unfoldable pub bootWrite : State → ℕ → Rule
 bootWrite s p = record {
   checks =
       00·02 when ltb 1 p
-      ∷ 01·1E when not (sameLock (partition p (s .drive .locks)) WriteUnlocked)
+      ∷ 01·1E when not (sameLock (partition p (s .registers .locks)) WriteUnlocked)
       ∷ [];
   answer = Done;
   effect = s;
@@ -195,8 +197,8 @@ reset s level = record {
 unfoldable pub frameRule : State → Frame → Rule
 frameRule s (frames.manage ns tags) = manage s ns tags
 frameRule s (frames.release ns) = release s ns
-frameRule s (frames.load ns tag uid key) = load s ns tag uid key
-frameRule s (frames.replace ns tag old uid key) = replace s ns tag old uid key
+frameRule s (frames.load ns tag x) = load s ns tag x
+frameRule s (frames.replace ns tag old x) = replace s ns tag old x
 frameRule s (frames.clearOne ns tag) = clearOne s ns tag
 frameRule s (frames.clearAll ns) = clearAll s ns
 frameRule s (frames.io c) = command s c
@@ -211,6 +213,10 @@ frameOf line = readFrame (decoded line) .frame
 
 abbrev pub readingChecks : List ℕ → List (Check Refusal)
 readingChecks line = 07·01 when not (isFrameLine line) ∷ readFrame (decoded line) .checks
+
+-- the line is read as this frame
+abbrev pub Reads : List ℕ → Frame → Type 0
+Reads line frame = AllPass (readingChecks line) × (frameOf line ≡ frame)
 
 unfoldable pub lineRule : State → List ℕ → Rule
 lineRule s line =

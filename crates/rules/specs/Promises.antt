@@ -1,126 +1,208 @@
--- What is promised of the definitions, as statements; proofs/Promised.antt has
--- a proof of each. `lines` are lines to one drive, the newest first.
+-- What is promised, as statements. Those about calls, sessions and histories
+-- are over any relation of what went in and what came out: proofs/Promised.antt
+-- proves each of the definitions' own relations, and `promises` proves the same
+-- statements of the code's.
 -- Assumes nothing.
 use mathlib.Core.Path.{_≡_}
 use mathlib.Core.Bool.{true, false}
 use mathlib.Core.Logic.{_↔_, _⊎_}
-use mathlib.Core.List.{List, [], _∷_}
+use mathlib.Core.List.{List, [], _∷_, _++_}
 use Prim.Native.Nat.{ℕ, _+_, _≤_, _<_}
+use lib.ListN.{length}
 use Rattle.rules.specs.declared.Namespace.{Namespace}
 use Rattle.rules.specs.declared.Tag.{Tag}
+use Rattle.rules.specs.declared.Command.{Command}
 use Rattle.rules.specs.declared.Lock.the-variants.{WriteLockedUntilPowerCycle}
 use Rattle.rules.specs.declared.Refusal.{Refusal}
+use Rattle.rules.specs.declared.Answer.{Answer}
 use Rattle.rules.specs.declared.Answer.the-variants.{Done, Refused}
 use Rattle.rules.specs.Numbers.{namespaces, poolSlots, tagsMost}
-use Rattle.rules.specs.Checks.{AllPass, FirstToFail}
-use Rattle.rules.specs.Answers.{accepted, 07·08}
-use Rattle.rules.specs.State.{State, Sized, count, managed}
-use Rattle.rules.specs.Slots.{slot, nothing, holding, held}
+use Rattle.rules.specs.Checks.{Check, AllPass, FirstToFail}
+use Rattle.rules.specs.Answers.{answerLine, accepted, 07·08}
+use Rattle.rules.specs.State.{State, Sized, IsNamespace, count, managed}
+use Rattle.rules.specs.Slots.{IsSlot, Contents, slot, nothing, holding, held}
 use Rattle.rules.specs.Marks.{identityOf}
 use Rattle.rules.specs.Sound.{unsound}
 use Rattle.rules.specs.Locks.{partition, bothLocked}
-use Rattle.rules.specs.declared.Command.{Command}
-use Rattle.rules.specs.Frames.{Frame, manage, load, io, reset}
-use Rattle.rules.specs.Order.{step, lineRule, frameOf, readingChecks, isReading, commandChecks, keyChecks}
+use Rattle.rules.specs.Frames.{manage, load, io, reset}
+use Rattle.rules.specs.Order.{step, lineRule, frameOf, Reads, isReading, commandChecks, keyChecks}
 use Rattle.rules.specs.Start.{fresh}
-use Rattle.rules.specs.Call.{call}
-use Rattle.rules.specs.Sessions.{session}
+use Rattle.rules.specs.Call.{Called, callChecks, roomFor, written, call}
+use Rattle.rules.specs.Sessions.{Session, linesOf, endState, answersTo, answerLines, roomForAll, session}
 use Rattle.rules.specs.History.{Event, holds, covers, lastWritten, tagCount, tagCounts}
 
--- the state after these lines from a fresh drive, and the lines with the answers given
-unfoldable pub after : List (List ℕ) → State
-after [] = fresh
-after (line ∷ older) = step (after older) line .state
+-- ------------------------------------------------------------------------
+-- What the statements are over, and the definitions' own relations
 
-unfoldable pub history : List (List ℕ) → List Event
-history [] = []
-history (line ∷ older) = record { line = line; answer = step (after older) line .answer } ∷ history older
+-- a call for one line: the state, the line and the output that it was given, and what it left
+abbrev pub OfCalls : Type 1
+OfCalls = State → List ℕ → List ℕ → Called → Type 0
 
-abbrev pub IsNamespace : Namespace → Type 0
-IsNamespace ns = (1 ≤ ns .0) × (ns .0 ≤ namespaces)
+abbrev pub Calls : OfCalls
+Calls s line out o = o ≡ call s line out
 
--- a slot that a namespace may hold
-abbrev pub IsSlot : Namespace → Tag → Type 0
-IsSlot ns tag = IsNamespace ns × (tag .0 < tagsMost)
+-- a session: the state, the text and the output that it was given, and what it left
+abbrev pub OfSessions : Type 1
+OfSessions = State → List ℕ → List ℕ → Session → Type 0
 
--- the line is read as this frame
-abbrev pub Reads : List ℕ → Frame → Type 0
-Reads line frame = AllPass (readingChecks line) × (frameOf line ≡ frame)
+abbrev pub Sessions : OfSessions
+Sessions s text out o = o ≡ session s text out
+
+-- a history, newest first, and the state that it led to
+abbrev pub OfHistories : Type 1
+OfHistories = List Event → State → Type 0
+
+-- any lines, one after another, from a fresh drive
+pub data FromFresh : List Event → State → Type 0 where
+  start : FromFresh [] fresh
+  one-more : (h : List Event) (s : State) → FromFresh h s → (line : List ℕ)
+      → FromFresh (record { line = line; answer = step s line .answer } ∷ h) (step s line .state)
+
+-- a line and its answer, after a history and in the state that it led to
+abbrev pub OfAnswers : Type 1
+OfAnswers = List Event → State → List ℕ → Answer → Type 0
+
+abbrev pub Steps : OfAnswers
+Steps h s line answer = FromFresh h s × (answer ≡ step s line .answer)
 
 -- ------------------------------------------------------------------------
--- Demand 3
+-- Demands 1 and 2: a call for one line, on any state, any line and any output
 
--- A slot holds a key exactly as the last accepted frame that touched it says.
-abbrev pub SlotAsTold : Type 0
-SlotAsTold =
-    (lines : List (List ℕ)) (ns : Namespace) (tag : Tag) → IsSlot ns tag
-    → held (slot (after lines) ns tag) ≡ holds ns tag (history lines)
+-- the checks of a call in the paper's order: 07 0F, 07 0D, 07 0E, then the line's own
+abbrev pub checksOf : State → List ℕ → List ℕ → List (Check Refusal)
+checksOf s line out = callChecks s (roomFor line) out ++ lineRule s line .checks
+
+module _ (Leaves : OfCalls) where
+  -- A refusal comes exactly when its check is the first, in the paper's order, to fail.
+  abbrev pub RefusedWhen : Type 0
+  RefusedWhen =
+      (s : State) (line out : List ℕ) (o : Called) → Leaves s line out o
+      → (r : Refusal) → (o .answer ≡ Refused r) ↔ FirstToFail (checksOf s line out) r
+
+  -- Where every check passes, answer and effects are those of the paper.
+  abbrev pub DoneWhen : Type 0
+  DoneWhen =
+      (s : State) (line out : List ℕ) (o : Called) → Leaves s line out o
+      → AllPass (checksOf s line out)
+      → (o .answer ≡ lineRule s line .answer) × (o .state ≡ lineRule s line .effect)
+
+  -- A refusal changes neither state nor marks.
+  abbrev pub RefusedKeeps : Type 0
+  RefusedKeeps =
+      (s : State) (line out : List ℕ) (o : Called) → Leaves s line out o
+      → (r : Refusal) → o .answer ≡ Refused r → o .state ≡ s
+
+  -- 07 0D, 07 0E and 07 0F write nothing; any other answer writes its line, and the output past it stays.
+  abbrev pub Writes : Type 0
+  Writes =
+      (s : State) (line out : List ℕ) (o : Called) → Leaves s line out o
+      → (((r : Refusal) × (FirstToFail (callChecks s (roomFor line) out) r × (o .answer ≡ Refused r)))
+      × ((o .bytes ≡ 0) × (o .out ≡ out)))
+      ⊎ (AllPass (callChecks s (roomFor line) out)
+      × ((o .bytes ≡ length (answerLine (o .answer))) × (o .out ≡ written (answerLine (o .answer)) out)))
+
+-- ------------------------------------------------------------------------
+-- A session, on any state, any text and any output
+
+-- its checks: 07 0F for all its lines, 07 0D, 07 0E
+abbrev pub sessionChecks : State → List ℕ → List ℕ → List (Check Refusal)
+sessionChecks s text out = callChecks s (roomForAll (linesOf text)) out
+
+module _ (Leaves : OfSessions) where
+  -- The session is refused exactly when its check is the first to fail.
+  abbrev pub SessionRefusedWhen : Type 0
+  SessionRefusedWhen =
+      (s : State) (text out : List ℕ) (o : Session) → Leaves s text out o
+      → (r : Refusal) → (o .result ≡ Refused r) ↔ FirstToFail (sessionChecks s text out) r
+
+  -- Then nothing changes, nothing is written, and both counts are 0.
+  abbrev pub SessionRefusedKeeps : Type 0
+  SessionRefusedKeeps =
+      (s : State) (text out : List ℕ) (o : Session) → Leaves s text out o
+      → (r : Refusal) → o .result ≡ Refused r
+      → o ≡ record { result = Refused r; state = s; lines = 0; bytes = 0; out = out }
+
+  -- Otherwise every line of the text is answered in its turn, from the state that the line before it left; the output shows just these
+  -- answers' lines, and the counts are theirs.
+  abbrev pub SessionAnswers : Type 0
+  SessionAnswers =
+      (s : State) (text out : List ℕ) (o : Session) → Leaves s text out o
+      → AllPass (sessionChecks s text out)
+      → (o .result ≡ Done)
+      × ((o .state ≡ endState s (linesOf text))
+      × ((o .lines ≡ length (linesOf text))
+      × ((o .bytes ≡ length (answerLines (answersTo s (linesOf text))))
+      × (o .out ≡ written (answerLines (answersTo s (linesOf text))) out))))
+
+-- ------------------------------------------------------------------------
+-- Demand 3, and the counts: of a state and the history that led to it
+
+module _ (Led : OfHistories) where
+  -- A slot holds a key exactly as the last accepted frame that touched it says.
+  abbrev pub SlotAsTold : Type 0
+  SlotAsTold =
+      (h : List Event) (s : State) → Led h s
+      → (ns : Namespace) (tag : Tag) → IsSlot ns tag
+      → held (slot s ns tag) ≡ holds ns tag h
+
+  -- No two loaded slots have equal KeyUIDs and unequal keys.
+  abbrev pub OneKeyForAKeyUid : Type 0
+  OneKeyForAKeyUid =
+      (h : List Event) (s : State) → Led h s
+      → (ns ns′ : Namespace) (tag tag′ : Tag) (x y : Contents) → IsSlot ns tag → IsSlot ns′ tag′
+      → held (slot s ns tag) ≡ holding x
+      → held (slot s ns′ tag′) ≡ holding y
+      → x .uid ≡ y .uid → x .key ≡ y .key
+
+  -- From fresh, a namespace's count is that of its last accepted manage not since released.
+  abbrev pub CountAsTold : Type 0
+  CountAsTold =
+      (h : List Event) (s : State) → Led h s
+      → (ns : Namespace) → IsNamespace ns
+      → count s ns ≡ tagCount ns h
+
+  -- After a start no call finds the state unsound: 07 0E is never answered.
+  abbrev pub NeverUnsound : Type 0
+  NeverUnsound = (h : List Event) (s : State) → Led h s → unsound s ≡ false
+
+-- ------------------------------------------------------------------------
+-- The same of a line and its answer
 
 -- a read, compare or verify of a managed namespace that passes every check before 00 28
 abbrev pub ReachesMarkCheck : State → List ℕ → Command → Type 0
 ReachesMarkCheck s line c =
     Reads line (io c) × ((isReading c ≡ true) × ((managed s (c .ns) ≡ true) × (AllPass (commandChecks c) × AllPass (keyChecks s c))))
 
--- A read, compare or verify that reaches the mark check passes exactly when every covered block was last written (since its namespace was last managed) under the same kept identity, or never.
-abbrev pub SameIdentityOrNever : Type 0
-SameIdentityOrNever =
-    (lines : List (List ℕ)) (line : List ℕ) (c : Command) → ReachesMarkCheck (after lines) line c
-    → (step (after lines) line .answer ≡ Done)
-    ↔ ((block : ℕ) → covers c block ≡ true
-    → (lastWritten (c .ns) block (history lines) ≡ nothing)
-    ⊎ (identityOf (lastWritten (c .ns) block (history lines)) ≡ identityOf (holds (c .ns) (c .tag) (history lines))))
+module _ (Answers : OfAnswers) where
+  -- A read, compare or verify that reaches the mark check passes exactly when every covered block was last written (since its namespace was
+  -- last managed) under the same kept identity, or never.
+  abbrev pub SameIdentityOrNever : Type 0
+  SameIdentityOrNever =
+      (h : List Event) (s : State) (line : List ℕ) (answer : Answer) → Answers h s line answer
+      → (c : Command) → ReachesMarkCheck s line c
+      → (answer ≡ Done)
+      ↔ ((block : ℕ) → covers c block ≡ true
+      → (lastWritten (c .ns) block h ≡ nothing)
+      ⊎ (identityOf (lastWritten (c .ns) block h) ≡ identityOf (holds (c .ns) (c .tag) h)))
 
--- No two loaded slots have equal KeyUIDs and unequal keys.
-abbrev pub OneKeyForAKeyUid : Type 0
-OneKeyForAKeyUid =
-    (lines : List (List ℕ)) (ns ns′ : Namespace) (tag tag′ : Tag) (uid key key′ : List ℕ) → IsSlot ns tag → IsSlot ns′ tag′
-    → held (slot (after lines) ns tag) ≡ holding uid key
-    → held (slot (after lines) ns′ tag′) ≡ holding uid key′
-    → key ≡ key′
+  -- A load never takes the place of a key: the day two keys met cannot come again.
+  abbrev pub LoadFindsNothing : Type 0
+  LoadFindsNothing =
+      (h : List Event) (s : State) (line : List ℕ) (answer : Answer) → Answers h s line answer
+      → (ns : Namespace) (tag : Tag) (x : Contents) → frameOf line ≡ load ns tag x
+      → accepted answer ≡ true
+      → holds ns tag h ≡ nothing
 
--- A load never takes the place of a key: the day two keys met cannot come again.
-abbrev pub LoadFindsNothing : Type 0
-LoadFindsNothing =
-    (lines : List (List ℕ)) (line : List ℕ) (ns : Namespace) (tag : Tag) (uid key : List ℕ) → frameOf line ≡ load ns tag uid key
-    → accepted (step (after lines) line .answer) ≡ true
-    → holds ns tag (history lines) ≡ nothing
-
--- ------------------------------------------------------------------------
--- The counts
-
--- From fresh, a namespace's count is that of its last accepted manage not since released.
-abbrev pub CountAsTold : Type 0
-CountAsTold =
-    (lines : List (List ℕ)) (ns : Namespace) → IsNamespace ns
-    → count (after lines) ns ≡ tagCount ns (history lines)
-
--- 07 08 exactly when the managed namespaces' tag counts, plus this one, exceed 64; the checks before it pass.
-abbrev pub PoolTooSmallWhen : Type 0
-PoolTooSmallWhen =
-    (lines : List (List ℕ)) (line : List ℕ) (ns : Namespace) (tags : ℕ) → Reads line (manage ns tags)
-    → (step (after lines) line .answer ≡ Refused 07·08)
-    ↔ (IsNamespace ns × ((tagCount ns (history lines) ≡ 0) × ((1 ≤ tags) × ((tags ≤ tagsMost) × (poolSlots < tagCounts namespaces (history lines) + tags)))))
+  -- 07 08 exactly when the managed namespaces' tag counts, plus this one, exceed 64; the checks before it pass.
+  abbrev pub PoolTooSmallWhen : Type 0
+  PoolTooSmallWhen =
+      (h : List Event) (s : State) (line : List ℕ) (answer : Answer) → Answers h s line answer
+      → (ns : Namespace) (tags : ℕ) → Reads line (manage ns tags)
+      → (answer ≡ Refused 07·08)
+      ↔ (IsNamespace ns × ((tagCount ns h ≡ 0) × ((1 ≤ tags) × ((tags ≤ tagsMost) × (poolSlots < tagCounts namespaces h + tags)))))
 
 -- ------------------------------------------------------------------------
--- Every state, every line
-
--- A refusal comes exactly when its check is the first, in the paper's order, to fail.
-abbrev pub RefusedWhen : Type 0
-RefusedWhen =
-    (s : State) (line : List ℕ) (r : Refusal)
-    → (step s line .answer ≡ Refused r) ↔ FirstToFail (lineRule s line .checks) r
-
--- Every refusal leaves state and marks unchanged: of a line, of a call, of a session.
-abbrev pub RefusedKeeps : Type 0
-RefusedKeeps = (s : State) (line : List ℕ) (r : Refusal) → step s line .answer ≡ Refused r → step s line .state ≡ s
-
-abbrev pub CallRefusedKeeps : Type 0
-CallRefusedKeeps = (s : State) (line out : List ℕ) (r : Refusal) → call s line out .answer ≡ Refused r → call s line out .state ≡ s
-
-abbrev pub SessionRefusedKeeps : Type 0
-SessionRefusedKeeps =
-    (s : State) (text out : List ℕ) (r : Refusal) → session s text out .result ≡ Refused r
-    → session s text out ≡ record { result = Refused r; state = s; lines = 0; bytes = 0; out = out }
+-- One line, from any state
 
 -- A step keeps a sound state sound.
 abbrev pub SoundKept : Type 0
@@ -129,8 +211,8 @@ SoundKept = (s : State) (line : List ℕ) → Sized s → unsound s ≡ false �
 -- A partition in Until Power Cycle stays so until a power cycle, whichever of the two it is and whatever the other is asked.
 abbrev pub HeldUntilPowerCycle : Type 0
 HeldUntilPowerCycle =
-    (s : State) (line : List ℕ) (p : ℕ) → partition p (s .drive .locks) ≡ WriteLockedUntilPowerCycle
-    → (partition p (step s line .state .drive .locks) ≡ WriteLockedUntilPowerCycle) ⊎ (frameOf line ≡ reset 1)
+    (s : State) (line : List ℕ) (p : ℕ) → partition p (s .registers .locks) ≡ WriteLockedUntilPowerCycle
+    → (partition p (step s line .state .registers .locks) ≡ WriteLockedUntilPowerCycle) ⊎ (frameOf line ≡ reset 1)
 
 -- A controller level reset changes nothing: no key, no lock.
 abbrev pub ControllerResetKeeps : Type 0
@@ -140,4 +222,4 @@ ControllerResetKeeps = (s : State) (line : List ℕ) → Reads line (reset 0) �
 abbrev pub PowerCycleLocks : Type 0
 PowerCycleLocks =
     (s : State) (line : List ℕ) → Reads line (reset 1)
-    → (step s line .state .drive ≡ record { counts = s .drive .counts; locks = bothLocked }) × (step s line .state .marks ≡ s .marks)
+    → (step s line .state .registers ≡ record { counts = s .registers .counts; locks = bothLocked }) × (step s line .state .marks ≡ s .marks)

@@ -4,15 +4,15 @@
 use mathlib.Core.Bool.{Bool, not, _&&_, cond}
 use mathlib.Core.List.{List, _∷_, _++_}
 use mathlib.Core.Path.{_≡_}
-use Prim.Native.Nat.{ℕ, _≤_, _+_, _-_, _*_, _/_, _%_}
+use Prim.Native.Nat.{ℕ, _≤_, _<_, _+_, _-_, _*_, _/_, _%_}
 use lib.ListN.{length, getD}
 use lib.Dec.{eqb}
 use Rattle.cells.specs.Cells.{part, cell, zeros}
-use Rattle.cells.specs.Tests.{same, someCell}
+use Rattle.cells.specs.Predicates.{same, someCell}
 use Rattle.rules.specs.declared.Namespace.{Namespace}
 use Rattle.rules.specs.declared.Tag.{Tag}
 use Rattle.rules.specs.Numbers.{tagsMost, uidMost, keySize, slotWidth, slotPlaces}
-use Rattle.rules.specs.State.{State, namespace, keyTag}
+use Rattle.rules.specs.State.{State, namespace, keyTag, IsNamespace}
 
 -- the place of a namespace and a tag, and which two a place has
 abbrev pub placeOf : Namespace → Tag → ℕ
@@ -27,6 +27,23 @@ tagAt i = keyTag (i % tagsMost)
 abbrev pub slot : State → Namespace → Tag → List ℕ
 slot s ns tag = cell slotWidth (placeOf ns tag) (s .keys)
 
+-- a slot that a namespace may hold
+abbrev pub IsSlot : Namespace → Tag → Type 0
+IsSlot ns tag = IsNamespace ns × (tag .0 < tagsMost)
+
+-- ------------------------------------------------------------------------
+-- What a loaded slot holds
+
+pub record Contents : Type 0 where
+  pub uid : List ℕ
+  pub key : List ℕ
+
+-- KeyUID: 1 to 16 bytes. Key: exactly 32 bytes.
+pub record FitKey (x : Contents) : Type 0 where
+  pub some : 1 ≤ length (x .uid)
+  pub short : length (x .uid) ≤ uidMost
+  pub whole : length (x .key) ≡ keySize
+
 -- ------------------------------------------------------------------------
 -- A slot's bytes: the KeyUID's length, 0 for an empty slot; the KeyUID, padded
 -- with zeros to 16; the key
@@ -34,14 +51,8 @@ slot s ns tag = cell slotWidth (placeOf ns tag) (s .keys)
 unfoldable pub padded : ℕ → List ℕ → List ℕ
 padded n xs = xs ++ zeros (n - length xs)
 
-unfoldable pub slotBytes : List ℕ → List ℕ → List ℕ
-slotBytes uid key = length uid ∷ (padded uidMost uid ++ key)
-
--- KeyUID: 1 to 16 bytes. Key: exactly 32 bytes.
-pub record FitKey (uid key : List ℕ) : Type 0 where
-  pub some : 1 ≤ length uid
-  pub short : length uid ≤ uidMost
-  pub whole : length key ≡ keySize
+unfoldable pub slotBytes : Contents → List ℕ
+slotBytes x = length (x .uid) ∷ (padded uidMost (x .uid) ++ x .key)
 
 -- an emptied slot is all zero bytes
 abbrev pub emptied : List ℕ
@@ -63,20 +74,23 @@ unfoldable pub keyOf : List ℕ → List ℕ
 keyOf c = part (1 + uidMost) keySize c
 
 -- ------------------------------------------------------------------------
--- What a slot holds
+-- What a slot holds, from its bytes
 
 pub data Held : Type 0 where
   nothing : Held
-  holding : (uid key : List ℕ) → Held
+  holding : Contents → Held
+
+abbrev pub contentsOf : List ℕ → Contents
+contentsOf c = record { uid = uidOf c; key = keyOf c }
 
 unfoldable pub held : List ℕ → Held
-held c = cond (empty c) nothing (holding (uidOf c) (keyOf c))
+held c = cond (empty c) nothing (holding (contentsOf c))
 
 -- ------------------------------------------------------------------------
 -- 07 0C: a loaded slot of any namespace has this KeyUID and another key
 
-unfoldable pub otherKeyIn : List ℕ → List ℕ → List ℕ → Bool
-otherKeyIn uid key c = loaded c && same (uidOf c) uid && not (same (keyOf c) key)
+unfoldable pub otherKeyIn : Contents → List ℕ → Bool
+otherKeyIn x c = loaded c && same (uidOf c) (x .uid) && not (same (keyOf c) (x .key))
 
-unfoldable pub otherKey : List ℕ → List ℕ → List ℕ → Bool
-otherKey keys uid key = someCell slotWidth 0 slotPlaces (λ place c. otherKeyIn uid key c) keys
+unfoldable pub otherKey : List ℕ → Contents → Bool
+otherKey keys x = someCell slotWidth 0 slotPlaces (λ place c. otherKeyIn x c) keys

@@ -3,12 +3,12 @@
 use mathlib.Core.Path.{_≡_}
 use mathlib.Core.Bool.{Bool, not, _||_}
 use mathlib.Core.List.{List, [], _∷_}
-use Prim.Native.Nat.{ℕ, _+_, _-_}
+use Prim.Native.Nat.{ℕ, _+_, _-_, _≤_}
 use lib.ListN.{length, getD}
 use lib.Dec.{eqb, leb, ltb}
 use Rattle.rules.specs.declared.Namespace.{Namespace}
 use Rattle.rules.specs.declared.Tag.{Tag}
-use Rattle.rules.specs.declared.Drive.{Drive}
+use Rattle.rules.specs.declared.Registers.{Registers}
 use Rattle.rules.specs.declared.Refusal.{Refusal}
 use Rattle.rules.specs.declared.Answer.{Answer}
 use Rattle.rules.specs.declared.Answer.the-variants.{Refused}
@@ -17,15 +17,18 @@ use Rattle.rules.specs.Checks.{Check, judged}
 
 -- the tag counts and boot locks, the key cache, the mark store
 pub record State : Type 0 where
-  pub drive : Drive
+  pub registers : Registers
   pub keys : List ℕ
   pub marks : List ℕ
 
--- the sizes that the code's types give, and the right store
+-- the sizes of a drive's parts
 pub record Sized (s : State) : Type 0 where
-  pub counts : length (s .drive .counts) ≡ namespaces
+  pub counts : length (s .registers .counts) ≡ namespaces
   pub cache : length (s .keys) ≡ cacheSize
   pub store : length (s .marks) ≡ storeSize
+
+abbrev pub wrongCache : List ℕ → Bool
+wrongCache keys = not (eqb (length keys) cacheSize)
 
 abbrev pub wrongStore : List ℕ → Bool
 wrongStore marks = not (eqb (length marks) storeSize)
@@ -66,9 +69,12 @@ sameTag a b = eqb (a .0) (b .0)
 abbrev pub noNamespace : Namespace → Bool
 noNamespace ns = ltb (ns .0) 1 || ltb namespaces (ns .0)
 
+abbrev pub IsNamespace : Namespace → Type 0
+IsNamespace ns = (1 ≤ ns .0) × (ns .0 ≤ namespaces)
+
 -- the tag count of a namespace; one is managed when its count is not 0
 abbrev pub count : State → Namespace → ℕ
-count s ns = getD (s .drive .counts) (ns .0 - 1) 0
+count s ns = getD (s .registers .counts) (ns .0 - 1) 0
 
 abbrev pub managed : State → Namespace → Bool
 managed s ns = not (eqb (count s ns) 0)

@@ -3,38 +3,36 @@
 // The drive's numbers, as in specs/Numbers.antt.
 pub const NAMESPACES: usize = 4;
 
-pub const BLOCKS: usize = 256;
+pub const BLOCKS_EACH: usize = 256;
 
-pub const POOL: usize = 64;
+pub const POOL_SLOTS: usize = 64;
 
-pub const TAGS: usize = 32;
+pub const TAGS_MOST: usize = 32;
 
-pub const UID: usize = 16;
+pub const UID_MOST: usize = 16;
 
-pub const KEY: usize = 32;
+pub const KEY_SIZE: usize = 32;
 
-pub const SLOT: usize = 1 + UID + KEY;
+pub const SLOT_WIDTH: usize = 1 + UID_MOST + KEY_SIZE;
 
-pub const IDENTITY: usize = 8;
+pub const IDENTITY_MOST: usize = 8;
 
-pub const MARK: usize = 1 + IDENTITY;
+pub const MARK_WIDTH: usize = 1 + IDENTITY_MOST;
 
-pub const SLOTS: usize = NAMESPACES * TAGS;
-
-pub const CACHE: usize = SLOTS * SLOT;
-
-pub const MARKS: usize = NAMESPACES * BLOCKS;
-
-pub const STORE: usize = MARKS * MARK;
-
-pub const DIGITS: usize = 140;
-
-pub const FRAME: usize = DIGITS / 2;
-
-pub const ANSWER: usize = 13;
+pub const SLOT_PLACES: usize = NAMESPACES * TAGS_MOST;
 
 // The key cache: a slot for each tag that a namespace may hold.
-pub type Cache = [u8; CACHE];
+pub const CACHE_SIZE: usize = SLOT_PLACES * SLOT_WIDTH;
+
+pub const MARK_PLACES: usize = NAMESPACES * BLOCKS_EACH;
+
+pub const STORE_SIZE: usize = MARK_PLACES * MARK_WIDTH;
+
+pub const DIGITS_MOST: usize = 140;
+
+pub const FRAME_MOST: usize = DIGITS_MOST / 2;
+
+pub const ANSWER_MOST: usize = 13;
 
 // A namespace number, 1 to 4 where it names one. A command's has 32 bits.
 pub struct Namespace(pub u32);
@@ -65,7 +63,7 @@ pub struct BootLocks {
 }
 
 // The small part of the state: a tag count for each namespace, 0 where it is not managed, and the boot locks.
-pub struct Drive {
+pub struct Registers {
     pub counts: [u8; NAMESPACES],
     pub locks: BootLocks,
 }

@@ -1,45 +1,105 @@
--- A slot's parts where they stand in the cache.
+-- The key cache at its own length and at another, and a slot's parts where they
+-- stand in it.
 -- Assumes nothing.
-use mathlib.Core.Path.{_≡_, refl, sym, ap, _∙_}
-use mathlib.Core.Bool.{true, false}
+use mathlib.Core.Path.{_≡_, refl, ap, _∙_}
+use mathlib.Core.Bool.{true, false, not, cond}
 use mathlib.Core.List.{List, [], _∷_, _++_, append-nil}
+use mathlib.Core.Logic.{by-cases}
 use Prim.Native.Nat.{ℕ, _+_, _-_, _*_, _≤_, _<_}
-use native.Mathlib.Nat.{add-zero}
+use native.Mathlib.Nat.{add-zero, one-mul}
+use native.Mathlib.Decide.{ℕ-discrete}
 use native.Mathlib.Omega.{arith}
-use lib.ListN.{length, getD, take, drop, set, drop-of-length-le}
+use lib.ListN.{length, getD, take, drop, set, length-set, length-append, length-drop, drop-of-length-le}
+use lib.Dec.{eqb}
 use lib.Seq.{set-split}
-use borrow.Author.Tests.{ne-eqb}
-use Rattle.cells.specs.Cells.{part, cell, zeros}
-use Rattle.cells.proofs.CellsLaws.{length-cell, first-cell, part-end, part-cell, cell-past, push}
-use Rattle.rules.specs.Numbers.{uidMost, keySize, slotWidth, slotPlaces, cacheSize}
+use borrow.Author.Tests.{eq-eqb, ne-eqb, lt-ltb, le-leb}
+use Rattle.cells.specs.Cells.{part, cell, zeros, copies, put, fill}
+use Rattle.cells.proofs.CellsLaws.{length-cell, first-cell, part-end, part-cell, cell-past, lent-length-to, copied, push, fill-all}
+use Rattle.rules.specs.declared.Namespace.{Namespace}
+use Rattle.rules.specs.Numbers.{tagsMost, uidMost, keySize, slotWidth, slotPlaces, cacheSize}
+use Rattle.rules.specs.State.{wrongCache, keyTag, noNamespace}
+use Rattle.rules.specs.Slots.{Contents, FitKey, placeOf, padded, slotBytes, emptied, uidLength, loaded, uidOf, keyOf}
 use Rattle.rules.specs.Sound.{afterUid}
-use Rattle.rules.specs.Slots.{padded, slotBytes, uidLength, loaded, uidOf, keyOf}
 use Rattle.rules.proofs.SlotsLaws.{length-padded}
-use Rattle.slots.specs.Cache.{headSize, headOf, headBytes}
+use Rattle.slots.specs.Cache.{slotAt, stored, cleared, clearedNamespace, clearedAll, headSize, headOf, headBytes}
+
+-- ------------------------------------------------------------------------
+-- The cache at its own length: what each definition is there
+
+pub wrong-cache : (keys : List ℕ) → (length keys ≡ cacheSize → ⊥) → wrongCache keys ≡ true
+wrong-cache keys wrong = ap not (ne-eqb (length keys) cacheSize wrong)
+
+pub right-cache : (keys : List ℕ) → length keys ≡ cacheSize → wrongCache keys ≡ false
+right-cache keys size = ap not (eq-eqb (length keys) cacheSize size)
+
+module _ (keys : List ℕ) (size : length keys ≡ cacheSize) where
+  pub slot-is : (place : ℕ) → slotAt place keys ≡ cell slotWidth place keys
+  unfolding slotAt
+  slot-is place = rw (right-cache keys size)
+
+  pub slot-past : (place : ℕ) → slotPlaces ≤ place → slotAt place keys ≡ []
+  slot-past place h = slot-is place ∙ cell-past slotWidth place keys (omega arith)
+
+  -- `store` itself takes an empty KeyUID
+  pub stored-short : (place : ℕ) (x : Contents) → place < slotPlaces → length (x .uid) ≤ uidMost → length (x .key) ≡ keySize
+      → stored place x keys ≡ put slotWidth place (slotBytes x) keys
+  unfolding stored
+  stored-short place x inside short whole =
+      rw (right-cache keys size, lt-ltb place slotPlaces inside, le-leb (length (x .uid)) uidMost short, eq-eqb (length (x .key)) keySize whole)
+
+  pub stored-is : (place : ℕ) (x : Contents) → place < slotPlaces → FitKey x → stored place x keys ≡ put slotWidth place (slotBytes x) keys
+  stored-is place x inside fit = stored-short place x inside (fit .short) (fit .whole)
+
+  pub cleared-is : (place : ℕ) → place < slotPlaces → cleared place keys ≡ put slotWidth place emptied keys
+  unfolding cleared
+  cleared-is place inside = rw (right-cache keys size, lt-ltb place slotPlaces inside)
+
+  pub cleared-namespace-is : (ns : Namespace) → noNamespace ns ≡ false
+      → clearedNamespace ns keys ≡ fill slotWidth (placeOf ns (keyTag 0)) tagsMost emptied keys
+  unfolding clearedNamespace
+  cleared-namespace-is ns is = rw (right-cache keys size, is)
+
+  pub cleared-all-is : clearedAll keys ≡ fill slotWidth 0 slotPlaces emptied keys
+  unfolding clearedAll
+  cleared-all-is = rw (right-cache keys size)
+
+pub cleared-all-zeros : (keys : List ℕ) → clearedAll keys ≡ cond (wrongCache keys) keys (zeros cacheSize)
+unfolding clearedAll
+cleared-all-zeros keys =
+    by-cases (ℕ-discrete (length keys) cacheSize)
+    (λ size. rw (right-cache keys size) (fill-all slotWidth slotPlaces keys size))
+    (λ wrong. rw (wrong-cache keys wrong))
+
+-- a run of one cell
+pub fill-one : (w i : ℕ) (v xs : List ℕ) → fill w i 1 v xs ≡ put w i v xs
+unfolding fill put copies
+fill-one w i v xs = rw (one-mul, append-nil)
+
+-- ------------------------------------------------------------------------
+-- A slot's parts
 
 module _ (keys : List ℕ) (place : ℕ) (size : length keys ≡ cacheSize) where
-  pub loaded-past : slotPlaces ≤ place → false ≡ loaded (cell slotWidth place keys)
-  loaded-past h = ap loaded (sym (cell-past slotWidth place keys (omega arith)))
-
   pub length-at : uidLength (cell slotWidth place keys) ≡ getD keys (place * slotWidth) 0
   length-at = first-cell slotWidth place keys (omega arith)
 
-  pub loaded-not : getD keys (place * slotWidth) 0 ≡ 0 → false ≡ loaded (cell slotWidth place keys)
-  loaded-not e = rw (length-at, e)
+  pub loaded-not : getD keys (place * slotWidth) 0 ≡ 0 → loaded (slotAt place keys) ≡ false
+  loaded-not e = rw (slot-is keys size place, length-at, e)
 
-  pub loaded-is : (getD keys (place * slotWidth) 0 ≡ 0 → ⊥) → loaded (cell slotWidth place keys) ≡ true
-  loaded-is n = rw (length-at, ne-eqb _ 0 n)
+  pub loaded-is : (getD keys (place * slotWidth) 0 ≡ 0 → ⊥) → loaded (slotAt place keys) ≡ true
+  loaded-is n = rw (slot-is keys size place, length-at, ne-eqb _ 0 n)
 
   module _ (inside : place < slotPlaces) where
     fits : place * slotWidth + slotWidth ≤ length keys
     fits = omega arith
 
-    pub uid-at : (n : ℕ) → getD keys (place * slotWidth) 0 ≡ n → n < slotWidth → uidOf (cell slotWidth place keys) ≡ part (place * slotWidth + 1) n keys
+    pub uid-at : (n : ℕ) → getD keys (place * slotWidth) 0 ≡ n → n < slotWidth
+        → uidOf (cell slotWidth place keys) ≡ part (place * slotWidth + 1) n keys
     unfolding uidOf
     uid-at n e h = ap (λ k. part 1 k (cell slotWidth place keys)) (length-at ∙ e) ∙ part-cell slotWidth place 1 n keys fits (omega arith)
 
     -- a length byte past the slot: the rest of the slot
-    pub uid-all : (n : ℕ) → getD keys (place * slotWidth) 0 ≡ n → slotWidth ≤ n → uidOf (cell slotWidth place keys) ≡ part (place * slotWidth + 1) (slotWidth - 1) keys
+    pub uid-all : (n : ℕ) → getD keys (place * slotWidth) 0 ≡ n → slotWidth ≤ n
+        → uidOf (cell slotWidth place keys) ≡ part (place * slotWidth + 1) (slotWidth - 1) keys
     unfolding uidOf
     uid-all n e h =
         let l = length-cell slotWidth place keys fits in
@@ -54,7 +114,8 @@ module _ (keys : List ℕ) (place : ℕ) (size : length keys ≡ cacheSize) wher
     pub head-at : headOf (cell slotWidth place keys) ≡ part (place * slotWidth) headSize keys
     head-at = part-cell slotWidth place 0 headSize keys fits (omega arith) ∙ ap (λ k. part k headSize keys) (add-zero (place * slotWidth))
 
-    pub after-at : (n : ℕ) → getD keys (place * slotWidth) 0 ≡ n → n ≤ uidMost → afterUid (cell slotWidth place keys) ≡ part (place * slotWidth + (1 + n)) (uidMost - n) keys
+    pub after-at : (n : ℕ) → getD keys (place * slotWidth) 0 ≡ n → n ≤ uidMost
+        → afterUid (cell slotWidth place keys) ≡ part (place * slotWidth + (1 + n)) (uidMost - n) keys
     after-at n e h =
         ap (λ k. part (1 + k) (uidMost - k) (cell slotWidth place keys)) (length-at ∙ e)
         ∙ part-cell slotWidth place (1 + n) (uidMost - n) keys fits (omega arith)
@@ -62,32 +123,59 @@ module _ (keys : List ℕ) (place : ℕ) (size : length keys ≡ cacheSize) wher
 -- ------------------------------------------------------------------------
 -- What the stores of `set_head` and of `set_slot` leave
 
-abbrev pub over : ℕ → ℕ → List ℕ → List ℕ → List ℕ
+-- ys in place of the k elements from a, as a part that was lent comes back
+abbrev over : ℕ → ℕ → List ℕ → List ℕ → List ℕ
 over a k xs ys = take a xs ++ (ys ++ drop k (drop a xs))
 
-module _ (d uid : List ℕ) (whole : length d ≡ headSize) (short : length uid ≤ uidMost) where
-  pub set-head-is : over (1 + length uid) (headSize - (1 + length uid)) (over 1 (1 + length uid - 1) (set d 0 (length uid)) uid) (zeros (uidMost - length uid)) ≡ headBytes uid
+-- what was lent, from a to e
+abbrev lent : ℕ → ℕ → List ℕ → List ℕ
+lent a e xs = take (e - a) (drop a xs)
+
+-- what `cells::copy` leaves in it
+abbrev copiedTo : ℕ → ℕ → List ℕ → List ℕ → List ℕ
+copiedTo a e xs src = cond (eqb (length (lent a e xs)) (length src)) src (lent a e xs)
+
+-- u is left by the copy of the KeyUID, z by the fill with zeros
+module _ (d uid u z : List ℕ) (whole : length d ≡ headSize) (short : length uid ≤ uidMost) where
+  abbrev first : List ℕ
+  first = set d 0 (length uid)
+
+  abbrev second : List ℕ
+  second = over 1 (1 + length uid - 1) (set d 0 (length uid)) u
+
+  pub set-head-is : u ≡ copiedTo 1 (1 + length uid) first uid → z ≡ zeros (length (lent (1 + length uid) headSize second))
+      → over (1 + length uid) (headSize - (1 + length uid)) second z ≡ headBytes uid
   unfolding headBytes padded
-  set-head-is =
+  set-head-is eu ez =
       let n : ℕ = length uid in
-      let z : List ℕ = zeros (uidMost - length uid) in
-      let s1 : set d 0 n ≡ (n ∷ []) ++ drop 1 d = set-split d 0 n (omega arith) in
-      let s2 = push (n ∷ []) d uid 1 (1 + n) refl (omega arith) in
-      let s3 = push (n ∷ uid) d z (1 + n) headSize (omega arith) (omega arith) in
+      let u-is : u ≡ uid = eu ∙ copied 1 (1 + length uid) first uid (omega (arith, length-set d 0 (length uid))) (omega arith) in
+      let s1 : first ≡ (n ∷ []) ++ drop 1 d = set-split d 0 n (omega arith) in
+      let s2 : second ≡ (n ∷ uid) ++ drop (1 + n) d = rw (u-is, s1) (push (n ∷ []) d uid 1 (1 + n) refl (omega arith)) in
+      let room : headSize ≤ length second = rw s2 (simp (length-append, length-drop) (omega arith)) in
+      let rest : headSize - (1 + length uid) ≡ uidMost - length uid = omega arith in
+      let z-is : z ≡ zeros (uidMost - length uid) = ez ∙ ap zeros (lent-length-to (1 + n) headSize second room ∙ rest) in
+      let s3 = push (n ∷ uid) d (zeros (uidMost - length uid)) (1 + n) headSize (omega arith) (omega arith) in
       let e : drop headSize d ≡ [] = drop-of-length-le d {i = headSize} (omega arith) in
-      rw (s1, s2, s3, e) (ap (λ l. n ∷ l) (append-nil (uid ++ z)))
+      rw (z-is, s2, s3, e) (ap (λ l. n ∷ l) (append-nil (uid ++ zeros (uidMost - length uid))))
 
 pub length-head : (uid : List ℕ) → length uid ≤ uidMost → length (headBytes uid) ≡ headSize
 unfolding headBytes
 length-head uid short = omega (arith, length-padded uidMost uid short)
 
-module _ (d uid key : List ℕ) (whole : length d ≡ slotWidth) (short : length uid ≤ uidMost) where
-  pub set-slot-is : over headSize (slotWidth - headSize) (over 0 (headSize - 0) d (headBytes uid)) key ≡ slotBytes uid key
+-- h is left by `set_head`, k by the copy of the key
+module _ (d uid key h k : List ℕ) (whole : length d ≡ slotWidth) (short : length uid ≤ uidMost) (full : length key ≡ keySize) where
+  abbrev headed : List ℕ
+  headed = over 0 (headSize - 0) d h
+
+  pub set-slot-is : h ≡ headBytes uid → k ≡ copiedTo headSize slotWidth headed key
+      → over headSize (slotWidth - headSize) headed k ≡ slotBytes (record { uid = uid; key = key })
   unfolding slotBytes headBytes
-  set-slot-is =
-      let h : List ℕ = length uid ∷ padded uidMost uid in
-      let l : length h ≡ headSize = length-head uid short in
-      let s1 = push [] d h 0 headSize refl (omega arith) in
-      let s2 = push h d key headSize slotWidth l (omega arith) in
+  set-slot-is eh ek =
+      let b : List ℕ = length uid ∷ padded uidMost uid in
+      let l : length b ≡ headSize = length-head uid short in
+      let s1 : headed ≡ b ++ drop headSize d = rw eh (push [] d b 0 headSize refl (omega arith)) in
+      let room : slotWidth ≤ length headed = rw s1 (simp (length-append, length-drop) (omega arith)) in
+      let k-is : k ≡ key = ek ∙ copied headSize slotWidth headed key room (omega arith) in
+      let s2 = push b d key headSize slotWidth l (omega arith) in
       let e : drop slotWidth d ≡ [] = drop-of-length-le d {i = slotWidth} (omega arith) in
-      rw (s1, s2, e) (append-nil (h ++ key))
+      rw (k-is, s1, s2, e) (append-nil (b ++ key))

@@ -12,11 +12,11 @@ use lib.ListN.{length, getD, take, drop, length-append, length-take}
 use lib.Seq.{take-at, take-add, drop-drop, drop-cons}
 use borrow.Author.Tests.{not-false, eqb-true}
 use Rattle.cells.specs.Cells.{part, zeros}
-use Rattle.cells.specs.Tests.{same, allZero}
+use Rattle.cells.specs.Predicates.{same, allZero}
 use Rattle.cells.proofs.CellsLaws.{length-part, getD-part}
-use Rattle.cells.proofs.TestsLaws.{same-refl, same-eq, allZero-eq, true-or-false}
+use Rattle.cells.proofs.PredicatesLaws.{same-refl, same-eq, allZero-eq, true-or-false}
 use Rattle.rules.specs.Numbers.{uidMost, slotWidth}
-use Rattle.rules.specs.Slots.{padded, uidLength, empty, uidOf, keyOf, otherKeyIn}
+use Rattle.rules.specs.Slots.{Contents, padded, uidLength, empty, uidOf, keyOf, otherKeyIn}
 use Rattle.rules.specs.Sound.{afterUid, slotUnsound}
 use Rattle.rules.proofs.SoundLaws.{long-is, rest-is}
 use Rattle.slots.specs.Cache.{headSize, headOf, headBytes, otherKeyBehind}
@@ -47,7 +47,9 @@ module _ (uid c : List ℕ) where
   pub long-head : uidMost < length uid → same (headOf c) (headBytes uid) ≡ false
   unfolding part headBytes padded
   long-head h =
-      true-or-false _ (λ e. let l = ap length (same-eq _ _ e) in omega (arith, length-take headSize (drop 0 c), length-append uid (zeros (uidMost - length uid))))
+      true-or-false _ (λ e.
+      let l = ap length (same-eq _ _ e) in
+      omega (arith, length-take headSize (drop 0 c), length-append uid (zeros (uidMost - length uid))))
 
   -- and an empty slot has the head of none
   pub empty-head : 1 ≤ length uid → empty c ≡ true → same (headOf c) (headBytes uid) ≡ false
@@ -93,8 +95,10 @@ module _ (c : List ℕ) (whole : length c ≡ slotWidth) (sound : slotUnsound fa
       ∙ ap (λ z. n ∷ z) (ap (λ k. part 1 k c) e ∙ part-join 1 n (uidMost - n) c ∙ ap (λ z. part 1 n c ++ z) pad-zero)
       ∙ ap (λ k. k ∷ (uidOf c ++ zeros (uidMost - k))) (sym uid-whole)
 
-  pub sound-behind : (uid key : List ℕ) → otherKeyBehind (headBytes uid) key c ≡ otherKeyIn uid key c
+  pub sound-behind : (x : Contents) → otherKeyBehind (headBytes (x .uid)) (x .key) c ≡ otherKeyIn x c
   unfolding otherKeyBehind otherKeyIn
-  sound-behind uid key =
-      let e : same (headOf c) (headBytes uid) ≡ same (uidOf c) uid = ap (λ h. same h (headBytes uid)) sound-head ∙ same-heads (uidOf c) uid in
-      ap (λ b. b && not (same (keyOf c) key)) e ∙ sym (ap (λ b. not b && same (uidOf c) uid && not (same (keyOf c) key)) full)
+  sound-behind x =
+      let e : same (headOf c) (headBytes (x .uid)) ≡ same (uidOf c) (x .uid) =
+      ap (λ h. same h (headBytes (x .uid))) sound-head ∙ same-heads (uidOf c) (x .uid) in
+      ap (λ b. b && not (same (keyOf c) (x .key))) e
+      ∙ sym (ap (λ b. not b && same (uidOf c) (x .uid) && not (same (keyOf c) (x .key))) full)

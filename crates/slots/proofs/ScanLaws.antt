@@ -6,15 +6,19 @@ use mathlib.Core.Bool.{Bool, true, false, not, _&&_, _||_, true≢false, or-fals
 use mathlib.Core.List.{List, [], _∷_}
 use Prim.Native.Nat.{ℕ, _+_, _-_, _*_, _/_, _%_, _≤_, _<_}
 use native.Mathlib.Omega.{arith}
+use lib.ListN.{length, getD}
 use lib.Dec.{leb, ltb}
 use borrow.Author.Tests.{le-leb, lt-leb, lt-ltb, le-ltb}
 use Rattle.cells.specs.Cells.{part, cell}
-use Rattle.cells.specs.Tests.{allZero, someCell}
-use Rattle.cells.proofs.TestsLaws.{then-none, some-start, some-split, some-same, marked, some-marked}
-use Rattle.rules.specs.Numbers.{namespaces, tagsMost, slotWidth, slotPlaces}
-use Rattle.rules.specs.Slots.{empty}
-use Rattle.rules.specs.Sound.{slotUnsound}
+use Rattle.cells.specs.Predicates.{allZero, someCell}
+use Rattle.cells.proofs.PredicatesLaws.{then-none, some-start, some-split, some-same, marked, some-marked}
+use Rattle.rules.specs.Numbers.{namespaces, poolSlots, tagsMost, slotWidth, slotPlaces, cacheSize}
+use Rattle.rules.specs.State.{State, tagAbove, total}
+use Rattle.rules.specs.Slots.{namespaceAt, tagAt, empty}
+use Rattle.rules.specs.Sound.{someAbove, slotUnsound, unsound}
 use Rattle.rules.proofs.SoundLaws.{empty-is, unallocated-is}
+use Rattle.slots.specs.Cache.{allocated, otherKeyBehind}
+use Rattle.slots.proofs.CacheLaws.{right-cache}
 
 -- ------------------------------------------------------------------------
 -- Namespace by namespace
@@ -24,17 +28,18 @@ abbrev pub rest : (ℕ → List ℕ → Bool) → List ℕ → ℕ → Bool
 rest f keys ns = someCell slotWidth (ns * tagsMost) ((namespaces - ns) * tagsMost) f keys
 
 module _ (f : ℕ → List ℕ → Bool) (keys : List ℕ) where
-  -- namespace ns, where the test is g, and the rest
+  -- namespace ns, where the test is g and the answer b, and the rest
   pub rest-next : (g : ℕ → List ℕ → Bool) (ns : ℕ) → ns < namespaces → ((i : ℕ) → i / tagsMost ≡ ns → (c : List ℕ) → f i c ≡ g i c)
-      → rest f keys ns ≡ someCell slotWidth (ns * tagsMost) tagsMost g keys || rest f keys (ns + 1)
-  rest-next g ns h agree =
+      → {b : Bool} → someCell slotWidth (ns * tagsMost) tagsMost g keys ≡ b
+      → rest f keys ns ≡ b || rest f keys (ns + 1)
+  rest-next g ns h agree e =
       let n : (namespaces - ns) * tagsMost ≡ tagsMost + (namespaces - (ns + 1)) * tagsMost = omega arith in
       let a : ns * tagsMost + tagsMost ≡ (ns + 1) * tagsMost = omega arith in
       ap (λ k. someCell slotWidth (ns * tagsMost) k f keys) n
       ∙ some-split slotWidth f (ns * tagsMost) tagsMost ((namespaces - (ns + 1)) * tagsMost) keys
       ∙ ap (λ k. someCell slotWidth (ns * tagsMost) tagsMost f keys || someCell slotWidth k ((namespaces - (ns + 1)) * tagsMost) f keys) a
       ∙ ap (λ b. b || rest f keys (ns + 1))
-      (some-same slotWidth f g (ns * tagsMost) tagsMost keys (λ k l. agree (ns * tagsMost + k) (omega arith) (cell slotWidth (ns * tagsMost + k) keys)))
+      (some-same slotWidth f g (ns * tagsMost) tagsMost keys (λ k l. agree (ns * tagsMost + k) (omega arith) (cell slotWidth (ns * tagsMost + k) keys)) ∙ e)
 
   pub rest-end : (ns : ℕ) → ns ≡ namespaces → rest f keys ns ≡ false
   rest-end ns e = ap (rest f keys) e ∙ some-start slotWidth f slotPlaces keys
@@ -43,22 +48,43 @@ module _ (f : ℕ → List ℕ → Bool) (keys : List ℕ) where
 -- The tags of a namespace that are below a count
 
 -- a test of those alone, as a test of the first n slots: n is the count, or all where the count is above
-pub below-count : (f : ℕ → List ℕ → Bool) (keys : List ℕ) (ns count n : ℕ) → n ≤ tagsMost → n ≤ count → ((k : ℕ) → n ≤ k → k < tagsMost → count ≤ k)
-    → someCell slotWidth (ns * tagsMost) n f keys ≡ someCell slotWidth (ns * tagsMost) tagsMost (λ i c. ltb (i % tagsMost) count && f i c) keys
+pub below-count : (f : ℕ → List ℕ → Bool) (keys : List ℕ) (ns count n : ℕ) → n ≤ tagsMost → n ≤ count
+    → ((k : ℕ) → n ≤ k → k < tagsMost → count ≤ k)
+    → someCell slotWidth (ns * tagsMost) n f keys
+    ≡ someCell slotWidth (ns * tagsMost) tagsMost (λ i c. ltb (i % tagsMost) count && f i c) keys
 below-count f keys ns count n h l above =
     let first : ℕ = ns * tagsMost in
     let g : ℕ → List ℕ → Bool = (λ i c. ltb (i % tagsMost) count && f i c) in
     let e : n + (tagsMost - n) ≡ tagsMost = omega arith in
-    let t : (k : ℕ) → k < n → ltb ((ns * tagsMost + k) % tagsMost) count ≡ true = (λ k b. lt-ltb ((ns * tagsMost + k) % tagsMost) count (omega arith)) in
+    let t : (k : ℕ) → k < n → ltb ((ns * tagsMost + k) % tagsMost) count ≡ true =
+    (λ k b. lt-ltb ((ns * tagsMost + k) % tagsMost) count (omega arith)) in
     let tag : (k : ℕ) → k < tagsMost - n → (ns * tagsMost + n + k) % tagsMost ≡ n + k = (λ k b. omega arith) in
     let u : (k : ℕ) → k < tagsMost - n → ltb ((ns * tagsMost + n + k) % tagsMost) count ≡ false =
     (λ k b. le-ltb ((ns * tagsMost + n + k) % tagsMost) count (rw (tag k b) (above (n + k) (omega arith) (omega arith)))) in
-    let none = then-none slotWidth g (tagsMost - n) (first + n) keys (λ k b. ap (λ r. r && f (first + n + k) (cell slotWidth (first + n + k) keys)) (u k b)) in
+    let none =
+    then-none slotWidth g (tagsMost - n) (first + n) keys (λ k b. ap (λ r. r && f (first + n + k) (cell slotWidth (first + n + k) keys)) (u k b)) in
     some-same slotWidth f g first n keys (λ k b. ap (λ r. r && f (first + k) (cell slotWidth (first + k) keys)) (sym (t k b)))
     ∙ sym (or-false (someCell slotWidth first n g keys))
     ∙ ap (λ b. someCell slotWidth first n g keys || b) (sym none)
     ∙ sym (some-split slotWidth g first n (tagsMost - n) keys)
     ∙ ap (λ k. someCell slotWidth first k g keys) e
+
+-- ------------------------------------------------------------------------
+-- The search for a head with another key
+
+-- the test of the slot at a place, and of one in a namespace with this tag count
+abbrev pub otherAt : List ℕ → List ℕ → List ℕ → ℕ → List ℕ → Bool
+otherAt counts head key place c = allocated counts place && otherKeyBehind head key c
+
+abbrev pub otherBelow : ℕ → List ℕ → List ℕ → ℕ → List ℕ → Bool
+otherBelow count head key i c = ltb (i % tagsMost) count && otherKeyBehind head key c
+
+pub other-next : (counts head key keys : List ℕ) (ns : ℕ) → ns < namespaces
+    → {b : Bool} → someCell slotWidth (ns * tagsMost) tagsMost (otherBelow (getD counts ns 0) head key) keys ≡ b
+    → rest (otherAt counts head key) keys ns ≡ b || rest (otherAt counts head key) keys (ns + 1)
+other-next counts head key keys ns h =
+    rest-next (otherAt counts head key) keys (otherBelow (getD counts ns 0) head key) ns h
+    (λ i e c. ap (λ n. ltb (i % tagsMost) (getD counts n 0) && otherKeyBehind head key c) e)
 
 -- ------------------------------------------------------------------------
 -- Soundness: a slot at an unallocated tag is sound when its bytes are zero
@@ -84,12 +110,15 @@ unsoundBy count i c = slotUnsound (leb count (i % tagsMost)) c
 
 pub namespace-unsound : (keys : List ℕ) (ns count : ℕ) → count ≤ tagsMost
     → someCell slotWidth (ns * tagsMost) tagsMost (unsoundBy count) keys
-    ≡ someCell slotWidth (ns * tagsMost) count allocatedUnsound keys || not (allZero (part ((ns * tagsMost + count) * slotWidth) ((tagsMost - count) * slotWidth) keys))
+    ≡ someCell slotWidth (ns * tagsMost) count allocatedUnsound keys
+    || not (allZero (part ((ns * tagsMost + count) * slotWidth) ((tagsMost - count) * slotWidth) keys))
 namespace-unsound keys ns count h =
     let first : ℕ = ns * tagsMost in
     let n : tagsMost ≡ count + (tagsMost - count) = omega arith in
-    let below : (k : ℕ) → k < count → leb count ((ns * tagsMost + k) % tagsMost) ≡ false = (λ k l. lt-leb count ((ns * tagsMost + k) % tagsMost) (omega arith)) in
-    let above : (k : ℕ) → k < tagsMost - count → leb count ((ns * tagsMost + count + k) % tagsMost) ≡ true = (λ k l. le-leb count ((ns * tagsMost + count + k) % tagsMost) (omega arith)) in
+    let below : (k : ℕ) → k < count → leb count ((ns * tagsMost + k) % tagsMost) ≡ false =
+    (λ k l. lt-leb count ((ns * tagsMost + k) % tagsMost) (omega arith)) in
+    let above : (k : ℕ) → k < tagsMost - count → leb count ((ns * tagsMost + count + k) % tagsMost) ≡ true =
+    (λ k l. le-leb count ((ns * tagsMost + count + k) % tagsMost) (omega arith)) in
     ap (λ k. someCell slotWidth first k (unsoundBy count) keys) n
     ∙ some-split slotWidth (unsoundBy count) first count (tagsMost - count) keys
     ∙ ap (λ b. b || someCell slotWidth (first + count) (tagsMost - count) (unsoundBy count) keys)
@@ -98,3 +127,40 @@ namespace-unsound keys ns count h =
     (some-same slotWidth (unsoundBy count) marked (first + count) (tagsMost - count) keys
     (λ k l. ap (λ u. slotUnsound u (cell slotWidth (first + count + k) keys)) (above k l) ∙ unallocated-marked (cell slotWidth (first + count + k) keys))
     ∙ sym (some-marked slotWidth (first + count) (tagsMost - count) keys))
+
+-- ------------------------------------------------------------------------
+-- Soundness of the slots, namespace by namespace, and of the whole state
+
+-- the test of the slot at a place
+abbrev pub unsoundAt : List ℕ → ℕ → List ℕ → Bool
+unsoundAt counts place c = slotUnsound (leb (getD counts (place / tagsMost) 0) (place % tagsMost)) c
+
+pub unsound-next : (counts keys : List ℕ) (ns : ℕ) → ns < namespaces
+    → {b : Bool} → someCell slotWidth (ns * tagsMost) tagsMost (unsoundBy (getD counts ns 0)) keys ≡ b
+    → rest (unsoundAt counts) keys ns ≡ b || rest (unsoundAt counts) keys (ns + 1)
+unsound-next counts keys ns h =
+    rest-next (unsoundAt counts) keys (unsoundBy (getD counts ns 0)) ns h
+    (λ i e c. ap (λ k. slotUnsound (leb (getD counts k 0) (i % tagsMost)) c) e)
+
+-- in a cache of its length the counts decide, and then the slots
+module _ (s : State) (size : length (s .keys) ≡ cacheSize) where
+  abbrev countsUnsound : Bool
+  countsUnsound = someAbove tagsMost (s .registers .counts) || ltb poolSlots (total (s .registers .counts))
+
+  abbrev slotsUnsound : Bool
+  slotsUnsound = someCell slotWidth 0 slotPlaces (unsoundAt (s .registers .counts)) (s .keys)
+
+  unsound-is : unsound s ≡ countsUnsound || slotsUnsound
+  unfolding unsound
+  unsound-is =
+      let n : (k : ℕ) → (0 + k) / tagsMost + 1 - 1 ≡ (0 + k) / tagsMost = (λ k. omega arith) in
+      (rw (right-cache (s .keys) size))
+      ∙ ap (λ b. countsUnsound || b)
+      (some-same slotWidth (λ i c. slotUnsound (tagAbove s (namespaceAt i) (tagAt i)) c) (unsoundAt (s .registers .counts)) 0 slotPlaces (s .keys)
+      (λ k l. ap (λ i. slotUnsound (leb (getD (s .registers .counts) i 0) ((0 + k) % tagsMost)) (cell slotWidth (0 + k) (s .keys))) (n k)))
+
+  pub unsound-counts : countsUnsound ≡ true → unsound s ≡ true
+  unsound-counts e = unsound-is ∙ ap (λ b. b || slotsUnsound) e
+
+  pub unsound-slots : countsUnsound ≡ false → unsound s ≡ slotsUnsound
+  unsound-slots e = unsound-is ∙ ap (λ b. b || slotsUnsound) e

@@ -1,32 +1,37 @@
--- The key cache after a store or a clear, where what names no slot, or is no
--- key, changes nothing; and the search for another key among allocated tags.
+-- The key cache, lent at any length, after a store or a clear. What names no
+-- slot, or is no key, changes nothing; a cache of another length has no slots
+-- and stays. And the search for another key among allocated tags.
 -- Assumes nothing.
-use mathlib.Core.Bool.{Bool, not, _&&_, cond}
-use mathlib.Core.List.{List, _∷_}
+use mathlib.Core.Bool.{Bool, false, not, _&&_, cond}
+use mathlib.Core.List.{List, [], _∷_}
 use Prim.Native.Nat.{ℕ, _+_, _/_, _%_}
 use lib.ListN.{length, getD}
 use lib.Dec.{eqb, leb, ltb}
-use Rattle.cells.specs.Cells.{part, put, fill}
-use Rattle.cells.specs.Tests.{same, someCell}
+use Rattle.cells.specs.Cells.{part, cell, put, fill}
+use Rattle.cells.specs.Predicates.{same, someCell}
 use Rattle.rules.specs.declared.Namespace.{Namespace}
 use Rattle.rules.specs.Numbers.{tagsMost, uidMost, keySize, slotWidth, slotPlaces}
-use Rattle.rules.specs.State.{keyTag, noNamespace}
-use Rattle.rules.specs.Slots.{placeOf, padded, slotBytes, emptied, keyOf}
+use Rattle.rules.specs.State.{wrongCache, keyTag, noNamespace}
+use Rattle.rules.specs.Slots.{Contents, placeOf, padded, slotBytes, emptied, keyOf}
 
-abbrev pub fitsSlot : ℕ → List ℕ → List ℕ → Bool
-fitsSlot place uid key = ltb place slotPlaces && leb (length uid) uidMost && eqb (length key) keySize
+-- the slot at a place; no bytes past the last
+unfoldable pub slotAt : ℕ → List ℕ → List ℕ
+slotAt place keys = cond (wrongCache keys) [] (cell slotWidth place keys)
 
-unfoldable pub stored : ℕ → List ℕ → List ℕ → List ℕ → List ℕ
-stored place uid key keys = cond (fitsSlot place uid key) (put slotWidth place (slotBytes uid key) keys) keys
+abbrev pub fitsSlot : ℕ → Contents → List ℕ → Bool
+fitsSlot place x keys = not (wrongCache keys) && ltb place slotPlaces && leb (length (x .uid)) uidMost && eqb (length (x .key)) keySize
+
+unfoldable pub stored : ℕ → Contents → List ℕ → List ℕ
+stored place x keys = cond (fitsSlot place x keys) (put slotWidth place (slotBytes x) keys) keys
 
 unfoldable pub cleared : ℕ → List ℕ → List ℕ
-cleared place keys = cond (ltb place slotPlaces) (put slotWidth place emptied keys) keys
+cleared place keys = cond (not (wrongCache keys) && ltb place slotPlaces) (put slotWidth place emptied keys) keys
 
 unfoldable pub clearedNamespace : Namespace → List ℕ → List ℕ
-clearedNamespace ns keys = cond (noNamespace ns) keys (fill slotWidth (placeOf ns (keyTag 0)) tagsMost emptied keys)
+clearedNamespace ns keys = cond (not (wrongCache keys) && not (noNamespace ns)) (fill slotWidth (placeOf ns (keyTag 0)) tagsMost emptied keys) keys
 
 unfoldable pub clearedAll : List ℕ → List ℕ
-clearedAll keys = fill slotWidth 0 slotPlaces emptied keys
+clearedAll keys = cond (wrongCache keys) keys (fill slotWidth 0 slotPlaces emptied keys)
 
 -- a tag below its namespace's count is allocated
 abbrev pub allocated : List ℕ → ℕ → Bool
@@ -48,5 +53,8 @@ otherKeyBehind head key c = same (headOf c) head && not (same (keyOf c) key)
 
 -- 07 0C at an allocated tag, by heads. For a KeyUID of 1 byte or more in a sound state it is `otherKey`: a stored KeyUID is padded with
 -- zeros, and every slot at another tag is empty.
-unfoldable pub otherKeyAllocated : List ℕ → List ℕ → List ℕ → List ℕ → Bool
-otherKeyAllocated counts keys uid key = someCell slotWidth 0 slotPlaces (λ place c. allocated counts place && otherKeyBehind (headBytes uid) key c) keys
+unfoldable pub otherKeyAllocated : List ℕ → List ℕ → Contents → Bool
+otherKeyAllocated counts keys x =
+    cond (wrongCache keys)
+    false
+    (someCell slotWidth 0 slotPlaces (λ place c. allocated counts place && otherKeyBehind (headBytes (x .uid)) (x .key) c) keys)

@@ -1,70 +1,126 @@
-// The key cache, lent by the caller: the slot of a place is the SLOT bytes from place * SLOT. Every function is total.
+// The key cache, lent by the caller at any length: the slot of a place is the SLOT_WIDTH bytes from place * SLOT_WIDTH. Every function is
+// total; a cache of another length than CACHE_SIZE has no slots, and stays.
 ghost use mathlib.Core.Path.{_≡_};
 ghost use mathlib.Core.Bool.{_&&_};
 ghost use mathlib.Core.List.{[]};
-ghost use Rattle.cells.specs.Cells.{cell};
-ghost use Rattle.cells.specs.Tests.{same};
-ghost use lib.ListN.{length};
-ghost use Rattle.rules.specs.Numbers.{slotWidth, cacheSize};
+ghost use Rattle.cells.specs.Predicates.{same};
 ghost use Rattle.rules.specs.Slots.{loaded as isLoaded, uidOf};
 ghost use Rattle.rules.specs.Sound.{unsound as isUnsound};
-ghost use Rattle.slots.specs.Cache.{otherKeyAllocated, stored, cleared, clearedNamespace, clearedAll};
+ghost use Rattle.slots.specs.Cache.{slotAt, otherKeyAllocated, stored, cleared, clearedNamespace, clearedAll};
 
 mod bytes;
 mod scan;
 
-use rules::Cache;
-use rules::Drive;
+use rules::CACHE_SIZE;
+use rules::KEY_SIZE;
 use rules::NAMESPACES;
 use rules::Namespace;
-use rules::SLOTS;
-use rules::TAGS;
+use rules::Registers;
+use rules::SLOT_PLACES;
+use rules::SLOT_WIDTH;
+use rules::TAGS_MOST;
+use rules::UID_MOST;
 
 // Whether the slot holds a key. A place past the last slot holds none.
-pub fn loaded(keys: &Cache, place: usize) -> bool
-    ensures { λ r. ⌜ r ≡ isLoaded (cell slotWidth place (now (keys .entry))) ⌝ }
+pub fn loaded(keys: &[u8], place: usize) -> bool
+    ensures { λ r. ⌜ r ≡ isLoaded (slotAt place (now (keys .entry))) ⌝ }
 {
-    bytes::loaded_at(keys, place)
+    if keys.len() != CACHE_SIZE {
+        return false;
+    }
+    if place >= SLOT_PLACES {
+        return false;
+    }
+    let a = place * SLOT_WIDTH;
+    keys[a] != 0
 }
 
 // Whether the slot holds this KeyUID.
-pub fn holds_uid(keys: &Cache, place: usize, uid: &[u8]) -> bool
-    ensures { λ r. ⌜ r ≡ (isLoaded (cell slotWidth place (now (keys .entry))) && same (uidOf (cell slotWidth place (now (keys .entry)))) (now (uid .entry))) ⌝ }
+pub fn holds_uid(keys: &[u8], place: usize, uid: &[u8]) -> bool
+    ensures { λ r. ⌜ r ≡ (isLoaded (slotAt place (now (keys .entry))) && same (uidOf (slotAt place (now (keys .entry)))) (now (uid .entry))) ⌝ }
 {
-    bytes::holds_at(keys, place, uid)
+    if keys.len() != CACHE_SIZE {
+        return false;
+    }
+    if place >= SLOT_PLACES {
+        return false;
+    }
+    let a = place * SLOT_WIDTH;
+    if keys[a] == 0 {
+        return false;
+    }
+    bytes::same_uid(keys, place, uid)
 }
 
-// 07 0C: whether a slot has this KeyUID and another key. It looks at allocated tags alone, a count above TAGS as TAGS, and at the length
-// byte and the padded KeyUID at once: for a KeyUID of 1 byte or more in a sound state that finds every loaded slot with this KeyUID and
-// no other (proofs/AllocatedLaws.antt). Its contract also tells the length that the type fixes.
-pub fn other_key(counts: [u8; NAMESPACES], keys: &Cache, uid: &[u8], key: &[u8]) -> bool
-    ensures { λ r. ⌜ (r ≡ otherKeyAllocated counts (now (keys .entry)) (now (uid .entry)) (now (key .entry))) × (length (now (keys .entry)) ≡ cacheSize) ⌝ }
+// 07 0C: whether a slot has this KeyUID and another key. It looks at allocated tags alone, a count above TAGS_MOST as TAGS_MOST, and at
+// the length byte and the padded KeyUID at once: for a KeyUID of 1 byte or more in a sound state that finds every loaded slot with this
+// KeyUID and no other (proofs/AllocatedLaws.antt). It makes the head once; a KeyUID above UID_MOST bytes is in no slot.
+pub fn other_key(counts: [u8; NAMESPACES], keys: &[u8], uid: &[u8], key: &[u8]) -> bool
+    ensures { λ r. ⌜ r ≡ otherKeyAllocated counts (now (keys .entry)) (record { uid = now (uid .entry); key = now (key .entry) }) ⌝ }
 {
-    scan::other_key_in(counts, keys, uid, key)
+    if keys.len() != CACHE_SIZE {
+        return false;
+    }
+    if uid.len() > UID_MOST {
+        return false;
+    }
+    let mut head = [0u8; bytes::HEAD_SIZE];
+    bytes::set_head(&mut head, uid);
+    scan::other_key_behind(counts, keys, &head, key)
 }
 
-// 07 0E: the paper's soundness scan. Its contract also tells the length that the type fixes, for the callers' proofs.
-pub fn unsound(drive: Drive, keys: &Cache) -> bool
-    ensures { λ r. ⌜ (r ≡ isUnsound (record { drive = drive; keys = now (keys .entry); marks = [] })) × (length (now (keys .entry)) ≡ cacheSize) ⌝ }
+// 07 0E: the paper's soundness scan.
+pub fn unsound(registers: Registers, keys: &[u8]) -> bool
+    ensures { λ r. ⌜ r ≡ isUnsound (record { registers = registers; keys = now (keys .entry); marks = [] }) ⌝ }
 {
-    scan::unsound_in(drive, keys)
+    if keys.len() != CACHE_SIZE {
+        return true;
+    }
+    let counts = registers.counts;
+    if scan::counts_unsound(counts) {
+        return true;
+    }
+    scan::slots_unsound(counts, keys)
 }
 
-pub fn store(keys: &mut Cache, place: usize, uid: &[u8], key: &[u8])
-    ensures { λ _. ⌜ now (keys .exit) ≡ stored place (now (uid .entry)) (now (key .entry)) (now (keys .entry)) ⌝ }
+pub fn store(keys: &mut [u8], place: usize, uid: &[u8], key: &[u8])
+    ensures { λ _. ⌜ now (keys .exit) ≡ stored place (record { uid = now (uid .entry); key = now (key .entry) }) (now (keys .entry)) ⌝ }
 {
-    bytes::store_at(keys, place, uid, key);
+    if keys.len() != CACHE_SIZE {
+        return;
+    }
+    if place >= SLOT_PLACES {
+        return;
+    }
+    if uid.len() > UID_MOST {
+        return;
+    }
+    if key.len() != KEY_SIZE {
+        return;
+    }
+    let a = place * SLOT_WIDTH;
+    let e = a + SLOT_WIDTH;
+    bytes::set_slot(&mut keys[a..e], uid, key);
 }
 
-pub fn clear(keys: &mut Cache, place: usize)
+pub fn clear(keys: &mut [u8], place: usize)
     ensures { λ _. ⌜ now (keys .exit) ≡ cleared place (now (keys .entry)) ⌝ }
 {
-    bytes::clear_at(keys, place);
+    if keys.len() != CACHE_SIZE {
+        return;
+    }
+    if place >= SLOT_PLACES {
+        return;
+    }
+    bytes::clear_run(keys, place, 1);
 }
 
-pub fn clear_namespace(keys: &mut Cache, ns: Namespace)
+pub fn clear_namespace(keys: &mut [u8], ns: Namespace)
     ensures { λ _. ⌜ now (keys .exit) ≡ clearedNamespace ns (now (keys .entry)) ⌝ }
 {
+    if keys.len() != CACHE_SIZE {
+        return;
+    }
     let n = ns.0 as usize;
     if n < 1 {
         return;
@@ -72,13 +128,15 @@ pub fn clear_namespace(keys: &mut Cache, ns: Namespace)
     if n > NAMESPACES {
         return;
     }
-    let first = (n - 1) * TAGS;
-    bytes::clear_run(keys, first, TAGS);
+    let first = (n - 1) * TAGS_MOST;
+    bytes::clear_run(keys, first, TAGS_MOST);
 }
 
-// Its contract also tells the length that the type fixes.
-pub fn clear_all(keys: &mut Cache)
-    ensures { λ _. ⌜ (now (keys .exit) ≡ clearedAll (now (keys .entry))) × (length (now (keys .entry)) ≡ cacheSize) ⌝ }
+pub fn clear_all(keys: &mut [u8])
+    ensures { λ _. ⌜ now (keys .exit) ≡ clearedAll (now (keys .entry)) ⌝ }
 {
-    bytes::clear_run(keys, 0, SLOTS);
+    if keys.len() != CACHE_SIZE {
+        return;
+    }
+    bytes::clear_run(keys, 0, SLOT_PLACES);
 }

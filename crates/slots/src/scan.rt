@@ -1,36 +1,33 @@
 // The two scans of the slots: an equal KeyUID with another key, and soundness.
 ghost use mathlib.Core.Path.{_≡_};
 ghost use mathlib.Core.Bool.{false, _&&_, _||_};
-ghost use mathlib.Core.List.{[]};
-ghost use Prim.Native.Nat.{_+_, _*_, _%_, _≤_, _<_};
+ghost use Prim.Native.Nat.{_+_, _*_, _/_, _%_, _≤_, _<_};
 ghost use lib.Dec.{leb, ltb};
-ghost use lib.ListN.{length};
+ghost use lib.ListN.{length, getD};
 ghost use Rattle.cells.specs.Cells.{cell};
-ghost use Rattle.cells.specs.Tests.{same, someCell};
+ghost use Rattle.cells.specs.Predicates.{same, someCell};
 ghost use Rattle.rules.specs.Numbers.{namespaces, poolSlots, tagsMost, slotWidth, slotPlaces, cacheSize};
 ghost use Rattle.rules.specs.State.{total};
-ghost use Rattle.rules.specs.Sound.{someAbove, slotUnsound, unsound};
-ghost use Rattle.slots.specs.Cache.{allocated, headSize, headOf, otherKeyBehind, otherKeyAllocated};
-use crate::bytes::HEAD;
+ghost use Rattle.rules.specs.Sound.{someAbove, slotUnsound};
+ghost use Rattle.slots.specs.Cache.{allocated, headSize, headOf, otherKeyBehind};
+use crate::bytes::HEAD_SIZE;
 use crate::bytes::same_key;
-use crate::bytes::set_head;
-use rules::Drive;
 use rules::NAMESPACES;
-use rules::POOL;
-use rules::SLOT;
-use rules::SLOTS;
-use rules::TAGS;
-use rules::UID;
+use rules::POOL_SLOTS;
+use rules::SLOT_PLACES;
+use rules::SLOT_WIDTH;
+use rules::TAGS_MOST;
+use rules::UID_MOST;
 
 // Whether the slot has this head. As many turns for every slot, and no way out of the loop: the compiler compares the head at once.
 fn same_head(keys: &[u8], place: usize, head: &[u8]) -> bool
     requires { ⌜ (length (now keys) ≡ cacheSize) × (place < slotPlaces) × (length (now head) ≡ headSize) ⌝ }
     ensures { λ r. ⌜ r ≡ same (headOf (cell slotWidth place (now (keys .entry)))) (now (head .entry)) ⌝ }
 {
-    let a = place * SLOT;
+    let a = place * SLOT_WIDTH;
     let mut same = true;
     let mut i = 0;
-    while i < HEAD {
+    while i < HEAD_SIZE {
         same = same & (keys[a + i] == head[i]);
         i += 1;
     }
@@ -65,20 +62,28 @@ fn other_key_run(keys: &[u8], first: usize, n: usize, head: &[u8], key: &[u8]) -
 // The same of the slots of a namespace whose tag is below this count.
 fn other_key_below(keys: &[u8], ns: usize, count: u8, head: &[u8], key: &[u8]) -> bool
     requires { ⌜ (length (now keys) ≡ cacheSize) × (ns < namespaces) × (length (now head) ≡ headSize) ⌝ }
-    ensures { λ r. ⌜ r ≡ someCell slotWidth (ns * tagsMost) tagsMost (λ i c. ltb (i % tagsMost) count && otherKeyBehind (now (head .entry)) (now (key .entry)) c) (now (keys .entry)) ⌝ }
+    ensures { λ r. ⌜ r
+        ≡ someCell slotWidth (ns * tagsMost) tagsMost
+        (λ i c. ltb (i % tagsMost) count && otherKeyBehind (now (head .entry)) (now (key .entry)) c) (now (keys .entry)) ⌝ }
 {
-    let first = ns * TAGS;
+    let first = ns * TAGS_MOST;
     let n = count as usize;
-    if n > TAGS {
-        return other_key_run(keys, first, TAGS, head, key);
+    if n > TAGS_MOST {
+        return other_key_run(keys, first, TAGS_MOST, head, key);
     }
     other_key_run(keys, first, n, head, key)
 }
 
 // The same of the slots of every namespace.
-fn other_key_behind(counts: [u8; NAMESPACES], keys: &[u8], head: &[u8], key: &[u8]) -> bool
+pub(crate) fn other_key_behind(
+    counts: [u8; NAMESPACES],
+    keys: &[u8],
+    head: &[u8],
+    key: &[u8],
+) -> bool
     requires { ⌜ (length (now keys) ≡ cacheSize) × (length (now head) ≡ headSize) ⌝ }
-    ensures { λ r. ⌜ r ≡ someCell slotWidth 0 slotPlaces (λ i c. allocated counts i && otherKeyBehind (now (head .entry)) (now (key .entry)) c) (now (keys .entry)) ⌝ }
+    ensures { λ r. ⌜ r
+        ≡ someCell slotWidth 0 slotPlaces (λ i c. allocated counts i && otherKeyBehind (now (head .entry)) (now (key .entry)) c) (now (keys .entry)) ⌝ }
 {
     let mut i = 0;
     while i < NAMESPACES {
@@ -90,35 +95,22 @@ fn other_key_behind(counts: [u8; NAMESPACES], keys: &[u8], head: &[u8], key: &[u
     false
 }
 
-// It makes the head once. A KeyUID above UID bytes is in no slot.
-pub(crate) fn other_key_in(counts: [u8; NAMESPACES], keys: &[u8], uid: &[u8], key: &[u8]) -> bool
-    requires { ⌜ length (now keys) ≡ cacheSize ⌝ }
-    ensures { λ r. ⌜ (r ≡ otherKeyAllocated counts (now (keys .entry)) (now (uid .entry)) (now (key .entry))) × (length (now (keys .entry)) ≡ cacheSize) ⌝ }
-{
-    if uid.len() > UID {
-        return false;
-    }
-    let mut head = [0u8; HEAD];
-    set_head(&mut head, uid);
-    other_key_behind(counts, keys, &head, key)
-}
-
 // Whether a slot at an allocated tag is unsound.
 fn slot_unsound(keys: &[u8], place: usize) -> bool
     requires { ⌜ (length (now keys) ≡ cacheSize) × (place < slotPlaces) ⌝ }
     ensures { λ r. ⌜ r ≡ slotUnsound false (cell slotWidth place (now (keys .entry))) ⌝ }
 {
-    let a = place * SLOT;
+    let a = place * SLOT_WIDTH;
     let n = keys[a] as usize;
     if n == 0 {
-        let e = a + SLOT;
+        let e = a + SLOT_WIDTH;
         return !cells::all_zero(&keys[a..e]);
     }
-    if n > UID {
+    if n > UID_MOST {
         return true;
     }
     let b = a + (1 + n);
-    let e = b + (UID - n);
+    let e = b + (UID_MOST - n);
     !cells::all_zero(&keys[b..e])
 }
 
@@ -143,40 +135,38 @@ fn namespace_unsound(keys: &[u8], ns: usize, count: usize) -> bool
     requires { ⌜ (length (now keys) ≡ cacheSize) × (ns < namespaces) × (count ≤ tagsMost) ⌝ }
     ensures { λ r. ⌜ r ≡ someCell slotWidth (ns * tagsMost) tagsMost (λ i c. slotUnsound (leb count (i % tagsMost)) c) (now (keys .entry)) ⌝ }
 {
-    let first = ns * TAGS;
+    let first = ns * TAGS_MOST;
     if allocated_unsound(keys, first, count) {
         return true;
     }
-    let a = (first + count) * SLOT;
-    let e = a + (TAGS - count) * SLOT;
+    let a = (first + count) * SLOT_WIDTH;
+    let e = a + (TAGS_MOST - count) * SLOT_WIDTH;
     !cells::all_zero(&keys[a..e])
 }
 
 // A count above what a namespace may hold, or more in all than the pool has.
-fn counts_unsound(counts: [u8; NAMESPACES]) -> bool
+pub(crate) fn counts_unsound(counts: [u8; NAMESPACES]) -> bool
     ensures { λ r. ⌜ r ≡ (someAbove tagsMost counts || ltb poolSlots (total counts)) ⌝ }
 {
     let mut sum: usize = 0;
     let mut i = 0;
     while i < NAMESPACES {
         let n = counts[i] as usize;
-        if n > TAGS {
+        if n > TAGS_MOST {
             return true;
         }
         sum += n;
         i += 1;
     }
-    sum > POOL
+    sum > POOL_SLOTS
 }
 
-pub(crate) fn unsound_in(drive: Drive, keys: &[u8]) -> bool
-    requires { ⌜ length (now keys) ≡ cacheSize ⌝ }
-    ensures { λ r. ⌜ (r ≡ unsound (record { drive = drive; keys = now (keys .entry); marks = [] })) × (length (now (keys .entry)) ≡ cacheSize) ⌝ }
+// Whether a slot of any namespace is unsound.
+pub(crate) fn slots_unsound(counts: [u8; NAMESPACES], keys: &[u8]) -> bool
+    requires { ⌜ (length (now keys) ≡ cacheSize) × (someAbove tagsMost counts ≡ false) ⌝ }
+    ensures { λ r. ⌜ r
+        ≡ someCell slotWidth 0 slotPlaces (λ place c. slotUnsound (leb (getD counts (place / tagsMost) 0) (place % tagsMost)) c) (now (keys .entry)) ⌝ }
 {
-    let counts = drive.counts;
-    if counts_unsound(counts) {
-        return true;
-    }
     let mut ns = 0;
     while ns < NAMESPACES {
         let count = counts[ns] as usize;

@@ -1,26 +1,28 @@
--- What an image is and is not, and what stands in it once a state is written
--- from the front: counts, two lock bytes, keys.
+-- What an image is and is not; the registers written to its front; the cache
+-- lent out of it and back, and what a call then leaves.
 -- Assumes nothing.
-use mathlib.Core.Path.{_≡_, refl, ap, _∙_}
-use mathlib.Core.Bool.{true, false, _||_, cond}
-use mathlib.Core.List.{List, [], _∷_, _++_}
+use mathlib.Core.Path.{_≡_, refl, sym, ap, _∙_}
+use mathlib.Core.Bool.{Bool, true, false, _||_, cond}
+use mathlib.Core.List.{List, [], _∷_, _++_, append-nil}
 use Prim.Native.Nat.{ℕ, zero, suc, _+_, _-_, _<_, _≤_}
 use native.Mathlib.Omega.{arith}
 use lib.ListN.{length, take, drop, set, length-append, length-drop, length-set}
-use lib.Seq.{take-at, append-snoc}
+use lib.Seq.{length-take-le, take-length, drop-length, drop-at, append-snoc}
 use lib.Dec.{eqb}
 use borrow.Author.Tests.{eq-eqb, ne-eqb, eqb-true, not-false}
-use Rattle.cells.proofs.CellsLaws.{grow, back-rest}
-use Rattle.cells.proofs.TestsLaws.{or-left, or-right}
+use Rattle.cells.proofs.CellsLaws.{grow, lent-rest, back-rest}
+use Rattle.cells.proofs.PredicatesLaws.{or-left, or-right}
 use Rattle.rules.specs.declared.Lock.the-variants.{WriteLocked, WriteLockedUntilPowerCycle}
-use Rattle.rules.specs.declared.Drive.{Drive}
-use Rattle.rules.specs.Numbers.{namespaces, cacheSize}
+use Rattle.rules.specs.declared.Registers.{Registers}
+use Rattle.rules.specs.Numbers.{namespaces}
 use Rattle.rules.specs.Answers.{number}
 use Rattle.rules.specs.State.{State, Outcome}
+use Rattle.rules.specs.Locks.{lockValue}
 use Rattle.rules.specs.Start.{start}
 use Rattle.rules.specs.Call.{Called, call}
 use Rattle.rules.specs.Sessions.{Session, session}
-use Rattle.tuffaleen_c.specs.Image.{smallSize, imageSize, lockOf, noLock, lockByte0, lockByte1, wrongLength, noImage, driveIn, keysIn, stateIn, imageOf, saved, CStarted, cStart, CCalled, cCall, CSession, cSession}
+use Rattle.tuffaleen_c.specs.Image.{registersSize, imageSize, lockOf, noLock, lockByte0, lockByte1, wrongLength, noImage, registersIn, keysIn, stateIn}
+use Rattle.tuffaleen_c.specs.Image.{registersBytes, imageOf, saved, CStarted, cStart, CCalled, cCall, CSession, cSession}
 
 -- ------------------------------------------------------------------------
 -- Lock bytes
@@ -39,6 +41,9 @@ held-of (suc (suc (suc b))) h = refl
 
 -- ------------------------------------------------------------------------
 -- What is no image
+
+pub right-length : (image : List ℕ) → wrongLength image ≡ false → length image ≡ imageSize
+right-length image e = eqb-true (length image) imageSize (not-false _ e)
 
 pub other-length : (image : List ℕ) → (length image ≡ imageSize → ⊥) → noImage image ≡ true
 unfolding noImage
@@ -63,99 +68,164 @@ unfolding noImage
 is-image image e =
     let head : wrongLength image || noLock (lockByte0 image) ≡ false = or-left _ (noLock (lockByte1 image)) e in
     record {
-      size = eqb-true (length image) imageSize (not-false _ (or-left (wrongLength image) (noLock (lockByte0 image)) head));
+      size = right-length image (or-left (wrongLength image) (noLock (lockByte0 image)) head);
       lock0 = or-right (wrongLength image) (noLock (lockByte0 image)) head;
       lock1 = or-right (wrongLength image || noLock (lockByte0 image)) (noLock (lockByte1 image)) e;
     }
 
-pub image-length : (image : List ℕ) → noImage image ≡ false → length image ≡ imageSize
-image-length image e = is-image image e .size
-
 -- ------------------------------------------------------------------------
--- What `copy` leaves in a list as long
+-- Copies
 
+-- what `copy` leaves in a list as long
 pub copied-whole : (d src : List ℕ) → length d ≡ length src → cond (eqb (length d) (length src)) src d ≡ src
 copied-whole d src e = rw (eq-eqb _ _ e)
 
--- ------------------------------------------------------------------------
--- An image written from the front
-
--- the counts and the first lock byte are written, and then the second
-abbrev pub counted : List ℕ → List ℕ → ℕ → List ℕ
-counted image counts a = set (counts ++ drop namespaces image) namespaces a
-
-abbrev pub headed : List ℕ → List ℕ → ℕ → ℕ → List ℕ
-headed image counts a b = set (counted image counts a) (namespaces + 1) b
-
-abbrev front : List ℕ → ℕ → ℕ → List ℕ
-front counts a b = (counts ++ (a ∷ [])) ++ (b ∷ [])
-
-module _ (image counts : List ℕ) (a b : ℕ) (size : length image ≡ imageSize) (four : length counts ≡ namespaces) where
-  pub length-counted : length (counted image counts a) ≡ imageSize
-  length-counted = simp (length-set, length-append, length-drop) (omega arith)
-
-  pub length-headed : length (headed image counts a b) ≡ imageSize
-  length-headed = simp (length-set, length-append, length-drop) (omega arith)
-
-  headed-is : headed image counts a b ≡ front counts a b ++ drop smallSize image
-  headed-is =
-      ap (λ l. set l (namespaces + 1) b) (grow counts image namespaces a four (omega arith))
-      ∙ grow (counts ++ (a ∷ [])) image (namespaces + 1) b (simp length-append (omega arith)) (omega arith)
-
-  -- and the keys behind them
-  pub written-is : (keys counts′ keys′ : List ℕ) → counts ≡ counts′ → keys ≡ keys′
-      → take smallSize (headed image counts a b) ++ (keys ++ drop (length (headed image counts a b) - smallSize) (drop smallSize (headed image counts a b))) ≡ counts′ ++ (a ∷ b ∷ keys′)
-  written-is keys counts′ keys′ c k =
-      back-rest smallSize keys (headed image counts a b)
-      ∙ ap (λ l. take smallSize l ++ keys) headed-is
-      ∙ ap (λ l. l ++ keys) (take-at (front counts a b) (drop smallSize image) smallSize (simp length-append (omega arith)))
-      ∙ append-snoc (counts ++ (a ∷ [])) b keys
-      ∙ append-snoc counts a (b ∷ keys)
-      ∙ (rw (c, k))
-
-pub length-image : (counts keys : List ℕ) (a b : ℕ) → length counts ≡ namespaces → length keys ≡ cacheSize → length (counts ++ (a ∷ b ∷ keys)) ≡ imageSize
-length-image counts keys a b four full = simp length-append (omega arith)
+-- the front that the counts are copied from and to
+pub length-front : (image : List ℕ) → length image ≡ imageSize → length (take namespaces image) ≡ namespaces
+length-front image size = length-take-le namespaces image (omega arith)
 
 -- ------------------------------------------------------------------------
--- All that a call from C leaves: the state comes out of the image, and the
--- image that is saved does not depend on the marks
+-- The registers written to the front: `counts` once they are copied, then the
+-- first lock byte and the second
 
-pub state-in : (image keys marks : List ℕ) (drive : Drive) → drive ≡ driveIn image → keys ≡ keysIn image
-    → _≡_ {A = State} (record { drive = drive; keys = keys; marks = marks }) (stateIn image marks)
-state-in image keys marks drive d k = rw (d, k)
+module _
+    {counts : List ℕ} (image : List ℕ) (registers : Registers) (size : length image ≡ imageSize) (four : length (registers .counts) ≡ namespaces)
+    (copied : counts ≡ cond (eqb (length (take namespaces image)) (length (registers .counts))) (registers .counts) (take namespaces image))
+    where
+  counts-are : counts ≡ registers .counts
+  counts-are = copied ∙ copied-whole (take namespaces image) (registers .counts) (length-front image size ∙ sym four)
 
-abbrev unmarked : State → State
-unmarked s = record { drive = s .drive; keys = s .keys; marks = [] }
+  counts-four : length counts ≡ namespaces
+  counts-four = ap length counts-are ∙ four
 
-imaged : (s : State) → imageOf (unmarked s) ≡ imageOf s
+  pub length-counted : length (counts ++ drop namespaces image) ≡ imageSize
+  length-counted = simp (length-append, length-drop) (omega (arith, counts-four))
+
+  pub length-headed : (a : ℕ) → length (set (counts ++ drop namespaces image) namespaces a) ≡ imageSize
+  length-headed a = simp length-set length-counted
+
+  pub registers-front : {a b : ℕ} → a ≡ lockValue (registers .locks .partition0) → b ≡ lockValue (registers .locks .partition1)
+      → set (set (counts ++ drop namespaces image) namespaces a) (namespaces + 1) b ≡ registersBytes registers ++ drop registersSize image
+  registers-front {a} {b} x y =
+      let one : length (counts ++ (a ∷ [])) ≡ namespaces + 1 = simp length-append (omega (arith, counts-four)) in
+      ap (λ l. set l (namespaces + 1) b) (grow counts image namespaces a counts-four (omega arith))
+      ∙ grow (counts ++ (a ∷ [])) image (namespaces + 1) b one (omega arith)
+      ∙ ap (λ l. l ++ drop registersSize image) (append-snoc counts a (b ∷ []))
+      ∙ (rw (counts-are, x, y))
+
+-- ------------------------------------------------------------------------
+-- The cache, lent where it lies
+
+abbrev keysAt : Bool → List ℕ → ℕ
+keysAt none image = cond none (length image) registersSize
+
+-- what is lent from a place on, and what the whole is once that has come back as `keys`
+abbrev lentFrom : ℕ → List ℕ → List ℕ
+lentFrom at image = take (length image - at) (drop at image)
+
+abbrev backFrom : ℕ → List ℕ → List ℕ → List ℕ
+backFrom at image keys = take at image ++ (keys ++ drop (length image - at) (drop at image))
+
+-- what `save` asks, and what it leaves
+abbrev Size : Bool → List ℕ → Type 0
+Size none image = none ≡ false → length image ≡ imageSize
+
+abbrev savedOver : Bool → Registers → List ℕ → List ℕ
+savedOver none registers image = cond none image (registersBytes registers ++ drop registersSize image)
+
+-- the cache is lent out of an image from where it starts, and of what is none from the end
+pub record Lends (image : List ℕ) (none : Bool) (at : ℕ) : Type 0 where
+  pub size : Size none image
+  pub place : at ≡ keysAt none image
+
+pub start-lends : {at : ℕ} (image : List ℕ) → at ≡ keysAt (wrongLength image) image → Lends image (wrongLength image) at
+start-lends image place = record { size = right-length image; place = place }
+
+pub call-lends : {none : Bool} {at : ℕ} (image : List ℕ) → none ≡ noImage image → at ≡ keysAt none image → Lends image none at
+call-lends image is place = record { size = λ e. is-image image (sym is ∙ e) .size; place = place }
+
+within : (none : Bool) (image : List ℕ) → Size none image → keysAt none image ≤ length image
+within true image size = omega arith
+within false image size = omega (arith, size refl)
+
+lent : (none : Bool) (image : List ℕ) → lentFrom (keysAt none image) image ≡ keysIn none image
+lent true image = lent-rest (length image) image ∙ drop-length image
+lent false image = lent-rest registersSize image
+
+no-keys : (keys : List ℕ) → length keys ≡ 0 → keys ≡ []
+no-keys [] e = refl
+no-keys (k ∷ keys) e = absurd (omega arith)
+
+over : (none : Bool) (image : List ℕ) (s : State) → Size none image → length (s .keys) ≡ length (keysIn none image)
+    → savedOver none (s .registers) (take (keysAt none image) image ++ s .keys) ≡ saved none image s
 unfolding imageOf
-imaged s = refl
+over true image s size same = rw (no-keys (s .keys) same, take-length image) (append-nil image)
+over false image s size same =
+    let front = length-take-le registersSize image (omega (arith, size refl)) in
+    ap (λ l. registersBytes (s .registers) ++ l) (drop-at (take registersSize image) (s .keys) registersSize front)
 
-kept : (image : List ℕ) (s : State) → saved image (unmarked s) ≡ saved image s
-unfolding saved
-kept image s = ap (cond (noImage image) image) (imaged s)
+module _ {image : List ℕ} {none : Bool} {at : ℕ} (lends : Lends image none at) where
+  pub lent-within : at ≤ length image
+  lent-within = rw (lends .place) (within none image (lends .size))
 
-module _ (image marks : List ℕ) (n : ℕ) (left : List ℕ) where
-  pub c-started : (o : Outcome) → length image ≡ imageSize → o ≡ start marks → left ≡ imageOf (unmarked (o .state)) → n ≡ number (o .answer)
+  lent-keys : lentFrom at image ≡ keysIn none image
+  lent-keys = rw (lends .place) (lent none image)
+
+  -- a call leaves as many keys as it was lent
+  pub back-size : (keys : List ℕ) → length keys ≡ length (lentFrom at image) → Size none (backFrom at image keys)
+  back-size keys same e =
+      let fits = lent-within in
+      let size = lends .size e in
+      let front : length (take at image) ≡ at = length-take-le at image fits in
+      let rest = ap length (lent-rest at image) ∙ length-drop at image in
+      ap length (back-rest at keys image) ∙ length-append (take at image) keys ∙ omega arith
+
+  back-saved : (s : State) → length (s .keys) ≡ length (lentFrom at image) → savedOver none (s .registers) (backFrom at image (s .keys)) ≡ saved none image s
+  back-saved s same =
+      ap (savedOver none (s .registers)) (back-rest at (s .keys) image ∙ ap (λ (n : ℕ). take n image ++ s .keys) (lends .place))
+      ∙ over none image s (lends .size) (same ∙ ap length lent-keys)
+
+-- ------------------------------------------------------------------------
+-- All that a call from C leaves, with `left` for the image and `n` for the
+-- answer's number
+
+-- what `save` leaves of an image whose cache has come back as that of a state
+abbrev Left : List ℕ → Bool → ℕ → State → List ℕ → Type 0
+Left image none at s left = (length (s .keys) ≡ length (lentFrom at image)) × (left ≡ savedOver none (s .registers) (backFrom at image (s .keys)))
+
+module _ {at : ℕ} (image marks : List ℕ) where
+  pub c-started : {o : Outcome} {n : ℕ} {left : List ℕ} → at ≡ keysAt (wrongLength image) image → o ≡ start (lentFrom at image) marks
+      → Left image (wrongLength image) at (o .state) left → n ≡ number (o .answer)
       → _≡_ {A = CStarted} (record { number = n; image = left; marks = o .state .marks }) (cStart image marks)
   unfolding cStart
-  c-started o size is l m =
-      rw (eq-eqb (length image) imageSize size, m, l, imaged (o .state))
-      (ap (λ (x : Outcome). record { number = number (x .answer); image = imageOf (x .state); marks = x .state .marks }) is)
+  c-started {o} place done l m =
+      let lends = start-lends image place in
+      (rw (m, l .1 ∙ back-saved lends (o .state) (l .0)))
+      ∙ ap (λ (x : Outcome). record { number = number (x .answer); image = saved (wrongLength image) image (x .state); marks = x .state .marks })
+      (done ∙ ap (λ k. start k marks) (lent-keys lends))
 
-  module _ (s : State) (from : s ≡ stateIn image marks) where
-    pub c-called : (line out : List ℕ) (c : Called) → c ≡ call s line out → left ≡ saved image (unmarked (c .state)) → n ≡ number (c .answer)
+  module _
+      {none : Bool} {registers : Registers}
+      (is : none ≡ noImage image) (place : at ≡ keysAt none image) (were : registers ≡ registersIn none image)
+      where
+    abbrev lentState : State
+    lentState = record { registers = registers; keys = lentFrom at image; marks = marks }
+
+    from : lentState ≡ stateIn image marks
+    from = rw (were, lent-keys (call-lends image is place), is)
+
+    left-is : {left : List ℕ} (s : State) → Left image none at s left → left ≡ saved (noImage image) image s
+    left-is s l = l .1 ∙ back-saved (call-lends image is place) s (l .0) ∙ ap (λ b. saved b image s) is
+
+    pub c-called : {c : Called} {n : ℕ} {left : List ℕ} (line out : List ℕ) → c ≡ call lentState line out
+        → Left image none at (c .state) left → n ≡ number (c .answer)
         → _≡_ {A = CCalled} (record { number = n; image = left; marks = c .state .marks; bytes = c .bytes; out = c .out }) (cCall image marks line out)
     unfolding cCall
-    c-called line out c is l m =
-        (rw (m, l, kept image (c .state)))
-        ∙ ap (λ (x : Called). record { number = number (x .answer); image = saved image (x .state); marks = x .state .marks; bytes = x .bytes; out = x .out })
-        (is ∙ ap (λ z. call z line out) from)
+    c-called {c} line out done l m = rw (m, left-is (c .state) l, done ∙ ap (λ s. call s line out) from)
 
-    pub c-session : (text out : List ℕ) (c : Session) → c ≡ session s text out → left ≡ saved image (unmarked (c .state)) → n ≡ number (c .result)
-        → _≡_ {A = CSession} (record { number = n; image = left; marks = c .state .marks; lines = c .lines; bytes = c .bytes; out = c .out }) (cSession image marks text out)
+    pub c-session : {c : Session} {n : ℕ} {left : List ℕ} (text out : List ℕ) → c ≡ session lentState text out
+        → Left image none at (c .state) left → n ≡ number (c .result)
+        → _≡_ {A = CSession} (record { number = n; image = left; marks = c .state .marks; lines = c .lines; bytes = c .bytes; out = c .out })
+        (cSession image marks text out)
     unfolding cSession
-    c-session text out c is l m =
-        (rw (m, l, kept image (c .state)))
-        ∙ ap (λ (x : Session). record { number = number (x .result); image = saved image (x .state); marks = x .state .marks; lines = x .lines; bytes = x .bytes; out = x .out })
-        (is ∙ ap (λ z. session z text out) from)
+    c-session {c} text out done l m = rw (m, left-is (c .state) l, done ∙ ap (λ s. session s text out) from)

@@ -2,47 +2,47 @@
 -- are one, a refusal leaves the state as it was, and what is no image writes nothing.
 -- Assumes nothing.
 use mathlib.Core.Path.{_≡_, refl, sym, ap, _∙_}
-use mathlib.Core.Bool.{Bool, true, false, cond, true≢false}
-use mathlib.Core.List.{List, _∷_, _++_}
+use mathlib.Core.Bool.{Bool, true, false, true≢false}
+use mathlib.Core.List.{List, [], _∷_, _++_, append-assoc}
 use mathlib.Core.Logic.{⊎-elim}
-use Prim.Native.Nat.{ℕ, zero, suc, _+_, _<_, _≤_}
+use Prim.Native.Nat.{ℕ, zero, suc, _+_, _≤_}
 use native.Mathlib.Omega.{arith}
-use lib.ListN.{length, take, drop, getD, take-append-drop}
+use lib.ListN.{length, take, drop, getD, take-append-drop, length-append, length-drop}
 use lib.Seq.{drop-cons, take-at, getD-append-add, drop-append-add}
 use lib.Dec.{eqb, ltb}
 use borrow.Author.Tests.{ltb-false, eq-eqb}
-use Rattle.cells.proofs.TestsLaws.{or-right}
+use Rattle.cells.proofs.PredicatesLaws.{or-right}
 use Rattle.rules.specs.declared.Lock.{Lock}
 use Rattle.rules.specs.declared.Lock.the-variants.{WriteUnlocked, WriteLocked, WriteLockedUntilPowerCycle}
 use Rattle.rules.specs.declared.Refusal.{Refusal}
-use Rattle.rules.specs.declared.Refusal.the-variants.{InvalidOpcode, InvalidField, InvalidNamespace, InvalidKeyTag, IncorrectKey, BlocksOutOfRange, LockNotChangeable, BootWriteProhibited, NotAFrameLine, UnknownKind, WrongLength, BadKeyUidLength, AlreadyManaged, NotManaged, BadTagCount, PoolTooSmall, SlotOccupied, SlotEmpty, OtherOldKeyUid, OtherKey, WrongStore, UnsoundState, OutputTooShort}
 use Rattle.rules.specs.declared.Answer.{Answer}
 use Rattle.rules.specs.declared.Answer.the-variants.{Done, LockStates, Refused}
-use Rattle.rules.specs.Numbers.{namespaces}
-use Rattle.rules.specs.Checks.{Check, judged, AllPass}
-use Rattle.rules.specs.Answers.{number, refusalNumber}
-use Rattle.rules.specs.State.{State, Sized, wrongStore}
-use Rattle.rules.specs.Sound.{someAbove, unsound}
+use Rattle.rules.specs.Numbers.{namespaces, cacheSize}
+use Rattle.rules.specs.Answers.{number, refusalNumber, answerLine}
+use Rattle.rules.specs.State.{State, wrongStore}
+use Rattle.rules.specs.Sound.{unsound}
 use Rattle.rules.specs.Locks.{lockValue}
 use Rattle.rules.specs.Start.{start}
-use Rattle.rules.specs.Call.{callChecks, roomFor, Called, call}
-use Rattle.rules.specs.Sessions.{linesOf, roomForAll, Session, session}
-use Rattle.rules.proofs.ChecksLaws.{judged-cases}
-use Rattle.rules.proofs.Promised.{call-refused-keeps, session-refused-keeps}
-use Rattle.tuffaleen_c.specs.Image.{partitions, smallSize, imageSize, lockOf, noLock, lockByte0, lockByte1, noImage, noDrive, driveIn, keysIn, stateIn, imageOf, saved, cStart, cCall, cSession}
-use Rattle.tuffaleen_c.specs.ImagePromises.{NoImageUnsound, SameImage, SameState, StartKeeps, StartFresh, NoImageWritesNothing, LineRefusedKeepsImage, SessionRefusedKeepsImage, NoImageNoSession}
-use Rattle.tuffaleen_c.proofs.ImageLaws.{is-image, length-image}
+use Rattle.rules.specs.Call.{Called, call}
+use Rattle.rules.specs.Sessions.{Session, noSession, session}
+use Rattle.rules.specs.Promises.{sessionChecks}
+use Rattle.rules.proofs.ChecksLaws.{by-verdict}
+use Rattle.rules.proofs.AnswersLaws.{line-then}
+use Rattle.rules.proofs.CallLaws.{session-unread}
+use Rattle.rules.proofs.Promised.{refused-keeps, writes, session-refused-keeps}
+use Rattle.tuffaleen_c.specs.Image.{partitions, registersSize, imageSize, lockOf, noLock, lockByte0, lockByte1, noImage}
+use Rattle.tuffaleen_c.specs.Image.{registersIn, keysIn, stateIn, imageOf, saved, cStart, cCall, cSession}
+use Rattle.tuffaleen_c.specs.ImagePromises.{NoImageUnsound, SameImage, SameState, StartKeeps, StartFresh}
+use Rattle.tuffaleen_c.specs.ImagePromises.{LineRefusedKeepsImage, SessionRefusedKeepsImage, NoImageWritesNothing, NoImageNoSession}
+use Rattle.tuffaleen_c.proofs.ImageLaws.{is-image, right-length}
 
 -- ------------------------------------------------------------------------
 -- An image and its state
 
-no-drive : (image : List ℕ) → noImage image ≡ true → driveIn image ≡ noDrive
-unfolding driveIn
-no-drive image e = rw e
-
+-- what is no image has no cache
 pub no-image-unsound : NoImageUnsound
-unfolding unsound someAbove
-no-image-unsound image marks e = ap (λ d. unsound (record { drive = d; keys = keysIn image; marks = marks })) (no-drive image e)
+unfolding unsound
+no-image-unsound image marks e = rw e
 
 same-lock : (b : ℕ) → noLock b ≡ false → lockValue (lockOf b) ≡ b
 same-lock zero e = absurd (true≢false e)
@@ -52,15 +52,18 @@ same-lock (suc (suc (suc b))) e =
     let most : suc (suc (suc b)) ≤ 3 = ltb-false 3 (suc (suc (suc b))) (or-right (eqb (suc (suc (suc b))) 0) (ltb 3 (suc (suc (suc b)))) e) in
     omega arith
 
--- the two bytes behind the first namespaces
-split : (image : List ℕ) → smallSize ≤ length image → take namespaces image ++ (lockByte0 image ∷ lockByte1 image ∷ drop smallSize image) ≡ image
+-- the two bytes behind the counts
+split : (image : List ℕ) → registersSize ≤ length image
+    → (take namespaces image ++ (lockByte0 image ∷ lockByte1 image ∷ [])) ++ drop registersSize image ≡ image
 split image h =
-    let one : drop (suc namespaces) image ≡ lockByte1 image ∷ drop smallSize image = drop-cons image (suc namespaces) 0 (omega arith) in
-    let two : drop namespaces image ≡ lockByte0 image ∷ lockByte1 image ∷ drop smallSize image = drop-cons image namespaces 0 (omega arith) ∙ ap (λ l. lockByte0 image ∷ l) one in
-    ap (λ l. take namespaces image ++ l) (sym two) ∙ take-append-drop namespaces image
+    let one : drop (suc namespaces) image ≡ lockByte1 image ∷ drop registersSize image = drop-cons image (suc namespaces) 0 (omega arith) in
+    let two = drop-cons image namespaces 0 (omega arith) ∙ ap (λ l. lockByte0 image ∷ l) one in
+    append-assoc (take namespaces image) (lockByte0 image ∷ lockByte1 image ∷ []) (drop registersSize image)
+    ∙ ap (λ l. take namespaces image ++ l) (sym two)
+    ∙ take-append-drop namespaces image
 
 pub same-image : SameImage
-unfolding imageOf driveIn keysIn
+unfolding imageOf registersIn
 same-image image marks e =
     let is = is-image image e in
     let size = is .size in
@@ -79,100 +82,95 @@ drop-past : (p q : List ℕ) (n i : ℕ) → length p ≡ n → drop (n + i) (p 
 drop-past p q n i e = rw (← e) (drop-append-add p q i)
 
 pub same-state : SameState
-unfolding imageOf driveIn keysIn noImage
+unfolding imageOf registersIn noImage
 same-state s sized =
-    let counts = s .drive .counts in
-    let a = s .drive .locks .partition0 in
-    let b = s .drive .locks .partition1 in
+    let counts = s .registers .counts in
+    let a = s .registers .locks .partition0 in
+    let b = s .registers .locks .partition1 in
     let four = sized .counts in
-    let size = length-image counts (s .keys) (lockValue a) (lockValue b) four (sized .cache) in
-    rw (eq-eqb _ imageSize size, take-at, getD-past counts _ namespaces 0, getD-past counts _ namespaces 1, drop-past counts _ namespaces partitions)
-    (rw (is-lock a .0, is-lock b .0, is-lock a .1, is-lock b .1) (refl, refl))
+    let full = sized .cache in
+    let whole : List ℕ = counts ++ (lockValue a ∷ lockValue b ∷ s .keys) in
+    let size : length whole ≡ imageSize = simp length-append (omega arith) in
+    rw (append-assoc counts (lockValue a ∷ lockValue b ∷ []) (s .keys))
+    (rw (eq-eqb _ imageSize size, take-at, getD-past counts _ namespaces 0, getD-past counts _ namespaces 1, drop-past counts _ namespaces partitions)
+    (rw (is-lock a .0, is-lock b .0, is-lock a .1, is-lock b .1) (refl, refl)))
 
 -- ------------------------------------------------------------------------
 -- Refusals
 
 -- the image's own state, saved again, leaves the image and the marks as they were
-stays : (image marks : List ℕ) (s : State) → s ≡ stateIn image marks → (saved image s ≡ image) × (s .marks ≡ marks)
-unfolding saved
-stays image marks s e = (ap (saved image) e ∙ by (noImage image) refl, ap (λ (x : State). x .marks) e)
+stays : (image marks : List ℕ) (s : State) → s ≡ stateIn image marks → (saved (noImage image) image s ≡ image) × (s .marks ≡ marks)
+stays image marks s e = (ap (saved (noImage image) image) e ∙ by (noImage image) refl, ap (λ (x : State). x .marks) e)
   where
-    by : (b : Bool) → noImage image ≡ b → cond (noImage image) image (imageOf (stateIn image marks)) ≡ image
-    by true p = rw p
-    by false p = rw p (same-image image marks p)
+    by : (b : Bool) → noImage image ≡ b → saved b image (stateIn image marks) ≡ image
+    by true p = refl
+    by false p = same-image image marks p
 
-positive : (r : Refusal) → 0 < refusalNumber r
-positive InvalidOpcode = omega arith
-positive InvalidField = omega arith
-positive InvalidNamespace = omega arith
-positive InvalidKeyTag = omega arith
-positive IncorrectKey = omega arith
-positive BlocksOutOfRange = omega arith
-positive LockNotChangeable = omega arith
-positive BootWriteProhibited = omega arith
-positive NotAFrameLine = omega arith
-positive UnknownKind = omega arith
-positive WrongLength = omega arith
-positive BadKeyUidLength = omega arith
-positive AlreadyManaged = omega arith
-positive NotManaged = omega arith
-positive BadTagCount = omega arith
-positive PoolTooSmall = omega arith
-positive SlotOccupied = omega arith
-positive SlotEmpty = omega arith
-positive OtherOldKeyUid = omega arith
-positive OtherKey = omega arith
-positive WrongStore = omega arith
-positive UnsoundState = omega arith
-positive OutputTooShort = omega arith
+-- a refusal with the number 0 would be said in Done's line
+some-number : (r : Refusal) → 0 ≡ refusalNumber r → ⊥
+unfolding answerLine
+some-number r e =
+    let done : Done ≡ Refused r = line-then Done (Refused r) [] [] tt tt (rw (← e)) .0 in
+    let z : _≡_ {A = ℕ} 0 1 = cc in
+    omega arith
 
 -- an answer with a refusal's number is a refusal
 refusal : (a : Answer) (r : Refusal) → number a ≡ refusalNumber r → (q : Refusal) × (a ≡ Refused q)
-refusal Done r e = absurd (omega (arith, positive r))
-refusal (LockStates dword) r e = absurd (omega (arith, positive r))
+refusal Done r e = absurd (some-number r e)
+refusal (LockStates dword) r e = absurd (some-number r e)
 refusal (Refused q) r e = (q, refl)
 
 pub line-refused-keeps-image : LineRefusedKeepsImage
 unfolding cCall
 line-refused-keeps-image image marks line out r e =
-    let c : Called = call (stateIn image marks) line out in
+    let s : State = stateIn image marks in
+    let c : Called = call s line out in
     let q = refusal (c .answer) r e in
-    stays image marks (c .state) (call-refused-keeps (stateIn image marks) line out (q .0) (q .1))
+    stays image marks (c .state) (refused-keeps s line out c refl (q .0) (q .1))
 
 pub session-refused-keeps-image : SessionRefusedKeepsImage
 unfolding cSession
 session-refused-keeps-image image marks text out r e =
-    let c : Session = session (stateIn image marks) text out in
+    let s : State = stateIn image marks in
+    let c : Session = session s text out in
     let q = refusal (c .result) r e in
-    stays image marks (c .state) (ap (λ (x : Session). x .state) (session-refused-keeps (stateIn image marks) text out (q .0) (q .1)))
+    stays image marks (c .state) (ap (λ (x : Session). x .state) (session-refused-keeps s text out c refl (q .0) (q .1)))
 
 -- ------------------------------------------------------------------------
 -- A start, and an image that is none
 
+no-cache-keeps : (marks : List ℕ) → start [] marks .state .marks ≡ marks
+unfolding start
+no-cache-keeps marks = by (wrongStore marks) refl
+  where
+    by : (b : Bool) → wrongStore marks ≡ b → start [] marks .state .marks ≡ marks
+    by true p = rw p
+    by false p = rw p
+
 pub start-keeps : StartKeeps
 unfolding cStart
-start-keeps image marks e = by (wrongStore marks) refl
-  where
-    by : (b : Bool) → wrongStore marks ≡ b → (cStart image marks .image ≡ image) × (cStart image marks .marks ≡ marks)
-    by true p = rw (e, p) (refl, refl)
-    by false p = rw (e, p) (refl, refl)
+start-keeps image marks e = (rw e, ap (λ b. start (keysIn b image) marks .state .marks) e ∙ no-cache-keeps marks)
 
 pub start-fresh : StartFresh
 unfolding cStart start
-start-fresh image marks e w = rw (e, w) (refl, refl)
-
--- what holds of every refusal holds where not all checks pass
-refuses : {A B : Type 0} (cs : List (Check A)) (f : A → B) (o : B) (P : B → Type 0) → ((a : A) → P (f a)) → (AllPass cs → ⊥) → P (judged cs f o)
-refuses cs f o P h n = ⊎-elim (λ r. rw (r .1) (h (r .0))) (λ p. absurd (n (p .0))) (judged-cases cs f o)
+start-fresh image marks e w =
+    let size = right-length image e in
+    let full : length (drop registersSize image) ≡ cacheSize = simp length-drop (omega arith) in
+    (rw (e, w, eq-eqb (length (drop registersSize image)) cacheSize full), rw (w, cStart))
 
 pub no-image-writes-nothing : NoImageWritesNothing
-unfolding cCall call
+unfolding cCall
 no-image-writes-nothing image marks line out e =
-    refuses (callChecks (stateIn image marks) (roomFor line) out) _ _ (λ (c : Called). (c .bytes ≡ 0) × (c .out ≡ out)) (λ r. (refl, refl))
-    (λ p. true≢false (sym (no-image-unsound image marks e) ∙ p .1 .1 .0))
+    ⊎-elim
+    (λ f. f .1)
+    (λ p. absurd (true≢false (sym (no-image-unsound image marks e) ∙ p .0 .1 .1 .0)))
+    (writes (stateIn image marks) line out _ refl)
 
 pub no-image-no-session : NoImageNoSession
-unfolding cSession session
+unfolding cSession noSession
 no-image-no-session image marks text out e =
-    refuses (callChecks (stateIn image marks) (roomForAll (linesOf text)) out) _ _ (λ (c : Session). (c .lines ≡ 0) × ((c .bytes ≡ 0) × (c .out ≡ out))) (λ r. (refl, (refl, refl)))
-    (λ p. true≢false (sym (no-image-unsound image marks e) ∙ p .1 .1 .0))
+    let s : State = stateIn image marks in
+    ⊎-elim
+    (λ f. rw (session-unread s text out (f .0) (f .1 .0)) (refl, (refl, refl)))
+    (λ p. absurd (true≢false (sym (no-image-unsound image marks e) ∙ p .0 .1 .1 .0)))
+    (by-verdict (sessionChecks s text out) Refused Done)

@@ -1,21 +1,19 @@
 -- The whole state but the marks as one byte image, for callers in C: the tag
 -- counts, the two boot locks, the key cache. And what a call leaves of it.
 -- Assumes nothing.
-use mathlib.Core.Bool.{Bool, not, _&&_, _||_, cond}
+use mathlib.Core.Bool.{Bool, not, _||_, cond}
 use mathlib.Core.List.{List, [], _∷_, _++_}
 use Prim.Native.Nat.{ℕ, zero, suc, _+_}
-use lib.ListN.{length, take, drop, getD, replicate}
+use lib.ListN.{length, take, drop, getD}
 use lib.Dec.{eqb, ltb}
-use Rattle.cells.specs.Cells.{zeros}
 use Rattle.rules.specs.declared.Lock.{Lock}
 use Rattle.rules.specs.declared.Lock.the-variants.{WriteUnlocked, WriteLocked, WriteLockedUntilPowerCycle}
-use Rattle.rules.specs.declared.Drive.{Drive}
-use Rattle.rules.specs.Numbers.{namespaces, tagsMost, cacheSize}
-use Rattle.rules.specs.Checks.{_when_, judged}
-use Rattle.rules.specs.Answers.{number, refusalNumber, 07·0D, 07·0E}
-use Rattle.rules.specs.State.{State, wrongStore}
-use Rattle.rules.specs.Locks.{lockValue, bothLocked}
-use Rattle.rules.specs.Start.{start}
+use Rattle.rules.specs.declared.Registers.{Registers}
+use Rattle.rules.specs.Numbers.{namespaces, cacheSize}
+use Rattle.rules.specs.Answers.{number}
+use Rattle.rules.specs.State.{State}
+use Rattle.rules.specs.Locks.{lockValue}
+use Rattle.rules.specs.Start.{freshRegisters, start}
 use Rattle.rules.specs.Call.{call}
 use Rattle.rules.specs.Sessions.{session}
 
@@ -26,12 +24,12 @@ use Rattle.rules.specs.Sessions.{session}
 abbrev pub partitions : ℕ
 partitions = 2
 
--- the small state: the tag counts, then the locks
-abbrev pub smallSize : ℕ
-smallSize = namespaces + partitions
+-- the registers: the tag counts, then the locks
+abbrev pub registersSize : ℕ
+registersSize = namespaces + partitions
 
 abbrev pub imageSize : ℕ
-imageSize = smallSize + cacheSize
+imageSize = registersSize + cacheSize
 
 -- a lock is kept as its value in Dword 11; 0 is none (noLock)
 abbrev pub lockOf : ℕ → Lock
@@ -56,32 +54,31 @@ wrongLength image = not (eqb (length image) imageSize)
 unfoldable pub noImage : List ℕ → Bool
 noImage image = wrongLength image || noLock (lockByte0 image) || noLock (lockByte1 image)
 
--- an allocation above 32, and no keys: what an image that is none is taken for
-abbrev pub noDrive : Drive
-noDrive = record { counts = replicate namespaces (tagsMost + 1); locks = bothLocked }
-
--- the state that an image and a store are
-unfoldable pub driveIn : List ℕ → Drive
-driveIn image =
-    cond (noImage image)
-    noDrive
+-- the state that an image and a store are. What is no image has no cache: a state that is unsound.
+unfoldable pub registersIn : Bool → List ℕ → Registers
+registersIn none image =
+    cond none
+    freshRegisters
     (record {
       counts = take namespaces image;
       locks = record { partition0 = lockOf (lockByte0 image); partition1 = lockOf (lockByte1 image) };
     })
 
-unfoldable pub keysIn : List ℕ → List ℕ
-keysIn image = cond (noImage image) (zeros cacheSize) (drop smallSize image)
+abbrev pub keysIn : Bool → List ℕ → List ℕ
+keysIn none image = cond none [] (drop registersSize image)
 
 abbrev pub stateIn : List ℕ → List ℕ → State
-stateIn image marks = record { drive = driveIn image; keys = keysIn image; marks = marks }
+stateIn image marks = record { registers = registersIn (noImage image) image; keys = keysIn (noImage image) image; marks = marks }
 
--- the image of a state, and the image that a state is saved in: what is no image stays
+-- the image of a state, and the image that a state is saved in: what is none stays
+abbrev pub registersBytes : Registers → List ℕ
+registersBytes registers = registers .counts ++ (lockValue (registers .locks .partition0) ∷ lockValue (registers .locks .partition1) ∷ [])
+
 unfoldable pub imageOf : State → List ℕ
-imageOf s = s .drive .counts ++ (lockValue (s .drive .locks .partition0) ∷ lockValue (s .drive .locks .partition1) ∷ s .keys)
+imageOf s = registersBytes (s .registers) ++ s .keys
 
-unfoldable pub saved : List ℕ → State → List ℕ
-saved image s = cond (noImage image) image (imageOf s)
+abbrev pub saved : Bool → List ℕ → State → List ℕ
+saved none image s = cond none image (imageOf s)
 
 -- ------------------------------------------------------------------------
 -- All that a call from C leaves
@@ -91,15 +88,12 @@ pub record CStarted : Type 0 where
   pub image : List ℕ
   pub marks : List ℕ
 
--- a fresh drive; nothing changes where the image has another length
+-- a fresh drive, in an image of the right length, whatever it held; another has no cache, and stays
 unfoldable pub cStart : List ℕ → List ℕ → CStarted
 cStart image marks =
-    judged
-    (07·0D when (wrongLength image && wrongStore marks)
-    ∷ 07·0E when wrongLength image
-    ∷ [])
-    (λ r. record { number = refusalNumber r; image = image; marks = marks })
-    (let o = start marks in record { number = number (o .answer); image = imageOf (o .state); marks = o .state .marks })
+    let none = wrongLength image in
+    let o = start (keysIn none image) marks in
+    record { number = number (o .answer); image = saved none image (o .state); marks = o .state .marks }
 
 pub record CCalled : Type 0 where
   pub number : ℕ
@@ -111,7 +105,7 @@ pub record CCalled : Type 0 where
 unfoldable pub cCall : List ℕ → List ℕ → List ℕ → List ℕ → CCalled
 cCall image marks line out =
     let c = call (stateIn image marks) line out in
-    record { number = number (c .answer); image = saved image (c .state); marks = c .state .marks; bytes = c .bytes; out = c .out }
+    record { number = number (c .answer); image = saved (noImage image) image (c .state); marks = c .state .marks; bytes = c .bytes; out = c .out }
 
 pub record CSession : Type 0 where
   pub number : ℕ
@@ -124,4 +118,4 @@ pub record CSession : Type 0 where
 unfoldable pub cSession : List ℕ → List ℕ → List ℕ → List ℕ → CSession
 cSession image marks text out =
     let c = session (stateIn image marks) text out in
-    record { number = number (c .result); image = saved image (c .state); marks = c .state .marks; lines = c .lines; bytes = c .bytes; out = c .out }
+    record { number = number (c .result); image = saved (noImage image) image (c .state); marks = c .state .marks; lines = c .lines; bytes = c .bytes; out = c .out }

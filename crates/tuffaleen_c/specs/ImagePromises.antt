@@ -6,6 +6,8 @@ use mathlib.Core.Bool.{true, false}
 use mathlib.Core.List.{List}
 use Prim.Native.Nat.{ℕ}
 use Rattle.rules.specs.declared.Refusal.{Refusal}
+use Rattle.cells.specs.Cells.{zeros}
+use Rattle.rules.specs.Numbers.{cacheSize}
 use Rattle.rules.specs.Answers.{refusalNumber}
 use Rattle.rules.specs.State.{State, Sized, wrongStore}
 use Rattle.rules.specs.Sound.{unsound}
@@ -31,7 +33,7 @@ StartKeeps = (image marks : List ℕ) → wrongLength image ≡ true → (cStart
 abbrev pub StartFresh : Type 0
 StartFresh =
     (image marks : List ℕ) → wrongLength image ≡ false → wrongStore marks ≡ true
-    → (cStart image marks .image ≡ imageOf (freshWith marks)) × (cStart image marks .marks ≡ marks)
+    → (cStart image marks .image ≡ imageOf (freshWith (zeros cacheSize) marks)) × (cStart image marks .marks ≡ marks)
 
 -- Every refusal leaves the image and the marks as they were.
 abbrev pub LineRefusedKeepsImage : Type 0

@@ -1,21 +1,20 @@
-// The image: tag counts, boot locks, key cache.
+// The image: tag counts, boot locks, key cache. The cache is lent where it lies.
 ghost use mathlib.Core.Path.{_≡_};
-ghost use mathlib.Core.List.{[]};
-ghost use lib.ListN.{length};
-ghost use Rattle.tuffaleen_c.specs.Image.{imageSize, lockOf, noLock, noImage, driveIn, keysIn, imageOf, saved};
+ghost use mathlib.Core.Bool.{false, cond};
+ghost use mathlib.Core.List.{_++_};
+ghost use lib.ListN.{length, drop};
+ghost use Rattle.tuffaleen_c.specs.Image.{registersSize, imageSize, lockOf, noLock, noImage, registersIn, registersBytes};
 use rules::BootLocks;
-use rules::CACHE;
-use rules::Cache;
-use rules::Drive;
+use rules::CACHE_SIZE;
 use rules::Lock;
 use rules::NAMESPACES;
-use rules::TAGS;
+use rules::Registers;
 
 const PARTITIONS: usize = 2;
 
-const SMALL: usize = NAMESPACES + PARTITIONS;
+const REGISTERS_SIZE: usize = NAMESPACES + PARTITIONS;
 
-pub(crate) const IMAGE: usize = SMALL + CACHE;
+pub(crate) const IMAGE_SIZE: usize = REGISTERS_SIZE + CACHE_SIZE;
 
 fn lock_of(b: u8) -> Lock
     ensures { λ r. ⌜ r ≡ lockOf b ⌝ }
@@ -36,20 +35,23 @@ fn no_lock(b: u8) -> bool
 pub(crate) fn no_image(image: &[u8]) -> bool
     ensures { λ r. ⌜ r ≡ noImage (now (image .entry)) ⌝ }
 {
-    if image.len() != IMAGE {
+    if image.len() != IMAGE_SIZE {
         return true;
     }
     no_lock(image[NAMESPACES]) || no_lock(image[NAMESPACES + 1])
 }
 
-// The small state in an image. What is no image is taken for an unsound state, so that the drive refuses it in its place.
-pub(crate) fn drive_in(image: &[u8]) -> Drive
-    ensures { λ r. ⌜ r ≡ driveIn (now (image .entry)) ⌝ }
+// The registers in an image; in what is none, some that nobody asks for.
+pub(crate) fn registers_in(image: &[u8], none: bool) -> Registers
+    requires { ⌜ none ≡ noImage (now image) ⌝ }
+    ensures { λ r. ⌜ r ≡ registersIn none (now (image .entry)) ⌝ }
 {
-    if no_image(image) {
-        let counts = [(TAGS + 1) as u8; NAMESPACES];
+    if none {
         let locks = locks::both_locked();
-        return Drive { counts, locks };
+        return Registers {
+            counts: [0u8; NAMESPACES],
+            locks,
+        };
     }
     let mut counts = [0u8; NAMESPACES];
     cells::copy(&mut counts, &image[..NAMESPACES]);
@@ -59,39 +61,32 @@ pub(crate) fn drive_in(image: &[u8]) -> Drive
         partition0,
         partition1,
     };
-    Drive { counts, locks }
+    Registers { counts, locks }
 }
 
-pub(crate) fn keys_in(image: &[u8], keys: &mut Cache)
-    ensures { λ _. ⌜ now (keys .exit) ≡ keysIn (now (image .entry)) ⌝ }
+// Where the cache starts. In what is no image it starts at the end: a cache of no bytes is lent, and the drive refuses it in its place.
+pub(crate) fn keys_at(image: &[u8], none: bool) -> usize
+    ensures { λ r. ⌜ r ≡ cond none (length (now (image .entry))) registersSize ⌝ }
 {
-    if no_image(image) {
-        cells::fill_zero(keys);
+    if none {
+        return image.len();
+    }
+    REGISTERS_SIZE
+}
+
+// The registers go to the front of an image; what is none stays.
+pub(crate) fn save(image: &mut [u8], none: bool, registers: Registers)
+    requires { ⌜ (none ≡ false → length (now image) ≡ imageSize) ⌝ }
+    ensures { λ _. ⌜ now (image .exit) ≡ cond none (now (image .entry)) (registersBytes registers ++ drop registersSize (now (image .entry))) ⌝ }
+{
+    if none {
         return;
     }
-    cells::copy(keys, &image[SMALL..]);
-}
-
-// A state in an image of the right length.
-pub(crate) fn write(image: &mut [u8], drive: Drive, keys: &Cache)
-    requires { ⌜ length (now image) ≡ imageSize ⌝ }
-    ensures { λ _. ⌜ now (image .exit) ≡ imageOf (record { drive = drive; keys = now (keys .entry); marks = [] }) ⌝ }
-{
-    let counts = drive.counts;
-    let locks = drive.locks;
+    let counts = registers.counts;
+    let locks = registers.locks;
     let zero = locks.partition0;
     let one = locks.partition1;
     cells::copy(&mut image[..NAMESPACES], &counts);
     image[NAMESPACES] = locks::lock_value(zero);
     image[NAMESPACES + 1] = locks::lock_value(one);
-    cells::copy(&mut image[SMALL..], keys);
-}
-
-pub(crate) fn save(image: &mut [u8], drive: Drive, keys: &Cache)
-    ensures { λ _. ⌜ now (image .exit) ≡ saved (now (image .entry)) (record { drive = drive; keys = now (keys .entry); marks = [] }) ⌝ }
-{
-    if no_image(image) {
-        return;
-    }
-    write(image, drive, keys);
 }

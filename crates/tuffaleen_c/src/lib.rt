@@ -1,38 +1,20 @@
 // The drive for callers in C: the state as one byte image that the caller holds. include/tuffaleen.h declares this.
 ghost use mathlib.Core.Path.{_≡_};
-ghost use Rattle.rules.specs.Answers.{refusalNumber};
 ghost use Rattle.tuffaleen_c.specs.Image.{cStart, cCall, cSession};
 
 mod image;
-
-use rules::Answer;
-use rules::CACHE;
-use rules::Refusal;
-use rules::STORE;
-
-fn refused(r: Refusal) -> u16
-    ensures { λ n. ⌜ n ≡ refusalNumber r ⌝ }
-{
-    let answer = Answer::Refused(r);
-    digits::number(answer)
-}
 
 // A fresh drive, in an image of the right length.
 #[no_mangle]
 pub extern "C" fn tuffaleen_start(image: &mut [u8], marks: &mut [u8]) -> u16
     ensures { λ r. ⌜ record { number = r; image = now (image .exit); marks = now (marks .exit) } ≡ cStart (now (image .entry)) (now (marks .entry)) ⌝ }
 {
-    if image.len() != image::IMAGE {
-        if marks.len() != STORE {
-            return refused(Refusal::WrongStore);
-        }
-        return refused(Refusal::UnsoundState);
-    }
-    let mut keys = [0u8; CACHE];
-    let left = drive::start(&mut keys, marks);
-    let answer = left.answer;
-    let drive = left.drive;
-    image::write(image, drive, &keys);
+    let none = image.len() != image::IMAGE_SIZE;
+    let at = image::keys_at(image, none);
+    let started = drive::start(&mut image[at..], marks);
+    let answer = started.answer;
+    let registers = started.registers;
+    image::save(image, none, registers);
     digits::number(answer)
 }
 
@@ -47,14 +29,14 @@ pub extern "C" fn tuffaleen_line(
 ) -> u16
     ensures { λ r. ⌜ record { number = r; image = now (image .exit); marks = now (marks .exit); bytes = now (written .exit); out = now (out .exit) } ≡ cCall (now (image .entry)) (now (marks .entry)) (now (line .entry)) (now (out .entry)) ⌝ }
 {
-    let mut keys = [0u8; CACHE];
-    image::keys_in(image, &mut keys);
-    let drive = image::drive_in(image);
-    let left = drive::answer_line(drive, &mut keys, marks, line, out);
-    let answer = left.answer;
-    let drive = left.drive;
-    image::save(image, drive, &keys);
-    *written = left.bytes;
+    let none = image::no_image(image);
+    let at = image::keys_at(image, none);
+    let registers = image::registers_in(image, none);
+    let reply = drive::answer_line(registers, &mut image[at..], marks, line, out);
+    let answer = reply.answer;
+    let registers = reply.registers;
+    image::save(image, none, registers);
+    *written = reply.bytes;
     digits::number(answer)
 }
 
@@ -70,14 +52,14 @@ pub extern "C" fn tuffaleen_session(
 ) -> u16
     ensures { λ r. ⌜ record { number = r; image = now (image .exit); marks = now (marks .exit); lines = now (lines .exit); bytes = now (written .exit); out = now (out .exit) } ≡ cSession (now (image .entry)) (now (marks .entry)) (now (text .entry)) (now (out .entry)) ⌝ }
 {
-    let mut keys = [0u8; CACHE];
-    image::keys_in(image, &mut keys);
-    let drive = image::drive_in(image);
-    let left = drive::answer_session(drive, &mut keys, marks, text, out);
-    let result = left.result;
-    let drive = left.drive;
-    image::save(image, drive, &keys);
-    *lines = left.lines;
-    *written = left.bytes;
+    let none = image::no_image(image);
+    let at = image::keys_at(image, none);
+    let registers = image::registers_in(image, none);
+    let reply = drive::answer_session(registers, &mut image[at..], marks, text, out);
+    let result = reply.result;
+    let registers = reply.registers;
+    image::save(image, none, registers);
+    *lines = reply.lines;
+    *written = reply.bytes;
     digits::number(result)
 }

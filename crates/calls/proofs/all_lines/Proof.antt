@@ -7,10 +7,10 @@ use Rattle.calls.proofs.all_lines.Statement.{statement}
 use Rattle.calls.proofs.all_lines.Tie as tie
 
 abbrev Inv-loop : tie.InvT-loop
-Inv-loop keys₀ marks₀ input drive₀ at₀ keys marks drive at = 0 ≤ at
+Inv-loop keys₀ marks₀ input registers₀ at₀ keys marks registers at = 0 ≤ at
 
 abbrev μ-loop : tie.MeasureT-loop
-μ-loop keys₀ marks₀ input drive₀ at₀ keys marks drive at = length input - at
+μ-loop keys₀ marks₀ input registers₀ at₀ keys marks registers at = length input - at
 
 fresh-requires : tie.Need-fresh-requires Inv-loop μ-loop
 fresh-requires c κs = search needs
@@ -49,16 +49,5 @@ pub all-lines-spec : {M : Type 1} → statement M
 all-lines-spec =
     tie.close
     (tie.spec
-    Inv-loop
-    μ-loop
-    fresh-requires
-    loop-holds
-    find-requires
-    sub-one-line
-    part-one-line-start
-    part-one-line-end
-    one-line-requires
-    add-at
-    loop-less
-    loop-again
-    returns)
+    Inv-loop μ-loop fresh-requires loop-holds find-requires sub-one-line part-one-line-start part-one-line-end one-line-requires add-at
+    loop-less loop-again returns)

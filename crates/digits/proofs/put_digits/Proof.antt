@@ -22,65 +22,36 @@ loop-holds : tie.Need-loop-holds Inv-loop μ-loop
 unfolding digitsOf
 loop-holds c = search needs
 
-shared-slice-read-byte : tie.Need-shared-slice-read-byte Inv-loop μ-loop
-shared-slice-read-byte c = search needs
-
 digit-requires : tie.Need-digit-requires Inv-loop μ-loop
-digit-requires c κs = omega (arith, c .shared-slice-known2 .given (c .before .before .loop .i))
-
-digit-requires-2 : tie.Need-digit-requires-2 Inv-loop μ-loop
-digit-requires-2 c κs = search needs
-
-mul-at : tie.Need-mul-at Inv-loop μ-loop
-mul-at c = search needs
-
-add-next : tie.Need-add-next Inv-loop μ-loop
-add-next c = search needs
-
-slice-write-out : tie.Need-slice-write-out Inv-loop μ-loop
-slice-write-out c = search needs
-
-slice-write-out-2 : tie.Need-slice-write-out-2 Inv-loop μ-loop
-slice-write-out-2 c = simp length-set (omega arith)
-
-add-i : tie.Need-add-i Inv-loop μ-loop
-add-i c = search needs
-
-loop-less : tie.Need-loop-less Inv-loop μ-loop
-loop-less c = search needs
+digit-requires c κs =
+    let at-loop : tie.At-loop Inv-loop μ-loop = search in
+    omega (arith, c .shared-slice-known2 .given (at-loop .loop .i))
 
 loop-again : tie.Need-loop-again Inv-loop μ-loop
 loop-again c =
-    let s = c .before .before .before .before .before .before .before .args in
-    let l = c .before .before .before .before .loop in (
-      ap (λ d. set (set d (l .i * 2) (c .before .digit .result)) (l .i * 2 + 1) (c .digit2 .result)) (l .inv .0)
-          ∙ (rw (c .before .digit .ensures, c .digit2 .ensures) (digits-turn (s .bytes .now) (s .out .now) (l .i) (omega arith) (omega arith))),
+    let at-digit : tie.After-digit Inv-loop μ-loop = search in
+    let at-loop : tie.At-loop Inv-loop μ-loop = search in
+    let start : tie.Start Inv-loop μ-loop = search in
+    let s = start .args in
+    let l = at-loop .loop in (
+      ap (λ d. set (set d (l .i * 2) (at-digit .digit .result)) (l .i * 2 + 1) (c .digit2 .result)) (l .inv .0)
+          ∙ (rw (at-digit .digit .ensures, c .digit2 .ensures) (digits-turn (s .bytes .now) (s .out .now) (l .i) (omega arith) (omega arith))),
       omega arith,
       (simp length-set (l .inv .2)),
     )
 
-same-length : tie.Need-same-length Inv-loop μ-loop
-same-length c = search needs
-
 returns : tie.Need-returns Inv-loop μ-loop
-returns c = let e : c .before .loop .i ≡ length (c .before .before .before .before .args .bytes .now) = omega arith in c .before .loop .inv .0 ∙ (rw (e, take-length))
+returns c =
+    let at-loop : tie.At-loop Inv-loop μ-loop = search in
+    let s : tie.Start Inv-loop μ-loop = search in
+    let e : at-loop .loop .i ≡ length (s .args .bytes .now) = omega arith in
+    at-loop .loop .inv .0 ∙ (rw (e, take-length))
 
 pub put-digits-spec : {M : Type 1} → statement M
 put-digits-spec =
     tie.close
     (tie.spec
-    Inv-loop
-    μ-loop
-    loop-holds
-    shared-slice-read-byte
-    digit-requires
-    digit-requires-2
-    mul-at
-    add-next
-    slice-write-out
-    slice-write-out-2
-    add-i
-    loop-less
-    loop-again
-    same-length
-    returns)
+    Inv-loop μ-loop loop-holds (λ c. search needs) digit-requires
+    (λ c κs. search needs) (λ c. search needs) (λ c. search needs) (λ c. search needs) (λ c. simp length-set (omega arith)) (λ c. search needs)
+    (λ c. search needs) loop-again
+    (λ c. search needs) returns)

@@ -3,30 +3,23 @@
 use native.Mathlib.Omega.{arith}
 use borrow.Author.Tests.{le-leb, lt-leb}
 use borrow.Author.Needs.{needs}
-use Rattle.cells.proofs.TestsLaws.{neither}
+use Rattle.cells.proofs.PredicatesLaws.{neither}
 use Rattle.digits.proofs.ReadingLaws.{outside}
 use Rattle.digits.proofs.value.Statement.{statement}
 use Rattle.digits.proofs.value.Tie as tie
 
-wrapping-sub-u8-requires : tie.Need-wrapping-sub-u8-requires
-wrapping-sub-u8-requires c κs = search needs
-
 returns : tie.Need-returns
 returns c =
-    let d = c .before .before .args .d in
+    let s : tie.Start = search in
+    let d = s .args .d in
     let low = le-leb 48 d (omega arith) in
     let high = le-leb d 57 (omega arith) in
     record { good = λ _. (simp (low, high), simp (low, high) (omega arith)); bad = λ h. absurd (omega arith) }
 
-wrapping-sub-u8-requires-2 : tie.Need-wrapping-sub-u8-requires-2
-wrapping-sub-u8-requires-2 c κs = search needs
-
-add-result : tie.Need-add-result
-add-result c = search needs
-
 returns-2 : tie.Need-returns-2
 returns-2 c =
-    let d = c .before .before .before .before .args .d in
+    let s : tie.Start = search in
+    let d = s .args .d in
     let past = lt-leb d 57 (omega arith) in
     let low = le-leb 65 d (omega arith) in
     let high = le-leb d 70 (omega arith) in
@@ -35,16 +28,9 @@ returns-2 c =
 
 returns-3 : tie.Need-returns-3
 returns-3 c =
-    let d = c .before .before .before .before .args .d in
+    let s : tie.Start = search in
+    let d = s .args .d in
     record { good = λ h. absurd (omega arith); bad = λ _. neither _ _ (outside 48 57 d (λ l u. omega arith)) (outside 65 70 d (λ l u. omega arith)) }
 
 pub value-spec : {M : Type 1} → statement M
-value-spec =
-    tie.close
-    (tie.spec
-    wrapping-sub-u8-requires
-    returns
-    wrapping-sub-u8-requires-2
-    add-result
-    returns-2
-    returns-3)
+value-spec = tie.close (tie.spec (λ c κs. search needs) returns (λ c κs. search needs) (λ c. search needs) returns-2 returns-3)

@@ -1,82 +1,66 @@
--- `answer_line` meets its contract: three tests, then the line and its answer.
+-- `answer_line` meets its contract: the call is refused, or its line is answered.
 -- Assumes nothing.
 use borrow.Author.Needs.{needs}
-use mathlib.Core.Path.{sym, _∙_}
+use mathlib.Core.Path.{_≡_, sym, ap, _∙_}
 use lib.ListN.{length}
-use borrow.Author.Tests.{lt-ltb, le-ltb, eq-eqb, ne-eqb}
-use Rattle.rules.specs.Numbers.{answerMost, storeSize}
-use Rattle.rules.specs.Sound.{unsound}
-use Rattle.rules.specs.Call.{call}
-use Rattle.drive.proofs.SteppingLaws.{sound-keys}
-use Rattle.drive.proofs.LineLaws.{wrote-line, called}
+use lib.Dec.{ltb}
+use Rattle.rules.specs.Numbers.{namespaces}
+use Rattle.rules.specs.State.{State}
+use Rattle.rules.specs.Call.{roomFor, unanswered, answered, call}
+use Rattle.drive.specs.Acting.{state}
+use Rattle.drive.proofs.AdmitLaws.{shut, let-in, has-room, ready}
 use Rattle.drive.proofs.answer_line.Statement.{statement}
 use Rattle.drive.proofs.answer_line.Tie as tie
 
-unanswered-requires : tie.Need-unanswered-requires
-unanswered-requires c κs = search needs
+-- the type says how many counts there are
+counted : (s : tie.Start) → length (s .args .registers .counts) ≡ namespaces
+counted s = search needs
+
+on-ready-requires : tie.Need-on-ready-requires
+on-ready-requires c κs =
+    let t : tie.After-enum-told = search in
+    let m : tie.After-admit = search in
+    let r : tie.After-room-for = search in
+    let s : tie.Start = search in
+    let a = s .args in
+    let short = ap (ltb (length (a .out .now))) (r .room-for .ensures) in
+    let e = sym (t .enum-told .given .1) ∙ m .admit .ensures in (
+      ready (a .registers) (a .keys .now) (a .marks .now) _ (a .out .now) _ short e (counted s),
+      has-room (a .registers) (a .keys .now) (a .marks .now) _ (a .out .now) _ short e,
+    )
 
 returns : tie.Need-returns
-unfolding call
+unfolding call unanswered
 returns c =
-    let s = c .before .before .before .before .before .args in
-    rw (c .unanswered .ensures, lt-ltb (length (s .out .now)) answerMost (c .before .if1 .taken))
-
-unanswered-requires-2 : tie.Need-unanswered-requires-2
-unanswered-requires-2 c κs = search needs
+    let q : tie.After-r = search in
+    let m : tie.After-admit = search in
+    let r : tie.After-room-for = search in
+    let s : tie.Start = search in
+    let a = s .args in
+    let now : State = state (a .registers) (a .keys .now) (a .marks .now) in
+    let short = ap (ltb (length (a .out .now))) (r .room-for .ensures) in
+    shut (a .registers) (a .keys .now) (a .marks .now) (roomFor (a .line .now)) (a .out .now) _ short
+    (q .r .given .0 .0) (unanswered now (a .out .now)) (answered now (a .line .now) (a .out .now)) (sym (q .r .given .1) ∙ m .admit .ensures)
 
 returns-2 : tie.Need-returns-2
 unfolding call
 returns-2 c =
-    let s = c .before .before .before .before .before .before .args in
-    rw (c .unanswered2 .ensures, le-ltb (length (s .out .now)) answerMost (c .before .before .if1 .left), ne-eqb (length (s .marks .now)) storeSize (c .before .if2 .taken))
-
-unsound-requires : tie.Need-unsound-requires
-unsound-requires c κs = search needs
-
-unanswered-requires-3 : tie.Need-unanswered-requires-3
-unanswered-requires-3 c κs = search needs
-
-returns-3 : tie.Need-returns-3
-unfolding call
-returns-3 c =
-    let s = c .before .before .before .before .before .before .before .before .before .args in
-    rw (c .unanswered3 .ensures, le-ltb (length (s .out .now)) answerMost (c .before .before .before .before .before .if1 .left), eq-eqb (length (s .marks .now)) storeSize (c .before .before .before .before .if2 .left), sound-keys (s .drive) (s .keys .now) (s .marks .now) ∙ sym (c .before .before .unsound .ensures .0) ∙ c .before .if3 .taken)
-
-on-line-requires : tie.Need-on-line-requires
-on-line-requires c κs =
-    let s = c .before .before .before .before .before .before .before .before .before .before .args in
-    record { sized = record { counts = search needs; cache = c .before .before .before .unsound .ensures .1; store = c .before .before .before .before .before .if2 .left }; sound = sound-keys (s .drive) (s .keys .now) (s .marks .now) ∙ sym (c .before .before .before .unsound .ensures .0) ∙ c .before .before .if3 .left }
-
-write-answer-requires : tie.Need-write-answer-requires
-write-answer-requires c κs = search needs
-
-same-length : tie.Need-same-length
-same-length c = search needs
-
-same-length-2 : tie.Need-same-length-2
-same-length-2 c = search needs
-
-returns-4 : tie.Need-returns-4
-unfolding call
-returns-4 c =
-    let s = c .before .before .before .before .before .before .before .before .before .before .before .before .before .before .before .before .before .before .args in
-    let answered = c .before .before .before .before .before .before .before .on-line .ensures in
-    let text = c .before .before .write-answer .ensures ∙ wrote-line _ (s .out .now) (c .before .before .before .before .before .before .before .before .before .before .before .before .before .before .if1 .left) in
-    rw (le-ltb (length (s .out .now)) answerMost (c .before .before .before .before .before .before .before .before .before .before .before .before .before .before .if1 .left), eq-eqb (length (s .marks .now)) storeSize (c .before .before .before .before .before .before .before .before .before .before .before .before .before .if2 .left), sound-keys (s .drive) (s .keys .now) (s .marks .now) ∙ sym (c .before .before .before .before .before .before .before .before .before .before .before .unsound .ensures .0) ∙ c .before .before .before .before .before .before .before .before .before .before .if3 .left) (called _ _ _ (s .out .now) _ _ text answered)
+    let o : tie.After-on-ready = search in
+    let t : tie.After-enum-told = search in
+    let m : tie.After-admit = search in
+    let r : tie.After-room-for = search in
+    let s : tie.Start = search in
+    let a = s .args in
+    let now : State = state (a .registers) (a .keys .now) (a .marks .now) in
+    let short = ap (ltb (length (a .out .now))) (r .room-for .ensures) in
+    o .on-ready .ensures
+    ∙ let-in (a .registers) (a .keys .now) (a .marks .now) (roomFor (a .line .now)) (a .out .now) _ short (sym (t .enum-told .given .1) ∙ m .admit .ensures)
+    (unanswered now (a .out .now)) (answered now (a .line .now) (a .out .now))
 
 pub answer-line-spec : {M : Type 1} → statement M
 answer-line-spec =
     tie.close
     (tie.spec
-    unanswered-requires
-    returns
-    unanswered-requires-2
-    returns-2
-    unsound-requires
-    unanswered-requires-3
-    returns-3
-    on-line-requires
-    write-answer-requires
-    same-length
-    same-length-2
-    returns-4)
+    (λ c κs. search needs) (λ c κs. search needs) (λ c. search needs) (λ c. search needs) on-ready-requires
+    (λ c. search needs) (λ c. search needs) returns
+    (λ c. search needs) (λ c. search needs) (λ c. search needs) returns-2)

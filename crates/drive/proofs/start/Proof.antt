@@ -1,59 +1,65 @@
--- `start` meets its contract.
+-- `start` meets its contract. The cache is looked at after it was emptied, which keeps its length.
 -- Assumes nothing.
 use borrow.Author.Needs.{needs}
-use mathlib.Core.Path.{_≡_}
+use native.Mathlib.Omega.{arith}
+use mathlib.Core.Path.{_≡_, ap, _∙_}
+use mathlib.Core.Bool.{true, false}
 use lib.ListN.{length}
-use borrow.Author.Tests.{ne-eqb}
 use Rattle.cells.specs.Cells.{zeros}
-use Rattle.cells.proofs.CellsLaws.{fill-all}
-use Rattle.rules.specs.Numbers.{slotWidth, slotPlaces, cacheSize, storeSize}
-use Rattle.rules.specs.Start.{freshDrive, start}
-use Rattle.slots.specs.Cache.{clearedAll}
+use Rattle.rules.specs.Numbers.{cacheSize, storeSize}
+use Rattle.rules.specs.State.{wrongCache, wrongStore}
+use Rattle.rules.specs.Start.{freshRegisters, start}
+use Rattle.slots.proofs.CacheLaws.{wrong-cache, right-cache, cleared-all-zeros}
+use Rattle.drive.proofs.KeysLaws.{wrong-store, right-store}
 use Rattle.drive.proofs.start.Statement.{statement}
 use Rattle.drive.proofs.start.Tie as tie
 
-clear-all-requires : tie.Need-clear-all-requires
-clear-all-requires c κs = search needs
-
-both-locked-requires : tie.Need-both-locked-requires
-both-locked-requires c κs = search needs
-
-refused-requires : tie.Need-refused-requires
-refused-requires c κs = search needs
-
 returns : tie.Need-returns
-unfolding start freshDrive clearedAll zeros
+unfolding start freshRegisters zeros
 returns c =
-    let s = c .before .before .before .before .before .before .args in
-    let size : length (s .keys .now) ≡ cacheSize = c .before .before .before .clear-all .ensures .1 in
-    rw (c .refused .ensures, c .before .before .both-locked .ensures, c .before .before .before .clear-all .ensures .0, fill-all slotWidth slotPlaces (s .keys .now) size, ne-eqb (length (s .marks .now)) storeSize (c .before .if1 .taken))
-
-fill-zero-requires : tie.Need-fill-zero-requires
-fill-zero-requires c κs = search needs
-
-done-requires : tie.Need-done-requires
-done-requires c κs = search needs
-
-same-length : tie.Need-same-length
-same-length c = search needs
+    let s : tie.Start = search in
+    let a = s .args in
+    let y : tie.After-clear-all = search in
+    let b : tie.After-both-locked = search in
+    let t : tie.Then1 = search in
+    let emptied = y .clear-all .ensures ∙ cleared-all-zeros (a .keys .now) in
+    let other : wrongStore (a .marks .now) ≡ true = wrong-store (a .marks .now) (t .if1 .taken) in
+    rw (c .refused .ensures, b .both-locked .ensures, emptied, other)
 
 returns-2 : tie.Need-returns-2
-unfolding start freshDrive clearedAll zeros
+unfolding start freshRegisters zeros
 returns-2 c =
-    let s = c .before .before .before .before .before .before .before .before .before .before .args in
-    let size : length (s .keys .now) ≡ cacheSize = c .before .before .before .before .before .before .before .clear-all .ensures .1 in
-    let right : length (s .marks .now) ≡ storeSize = c .before .before .before .before .before .if1 .left in
-    rw (c .done .ensures, c .before .before .before .before .before .before .both-locked .ensures, c .before .before .before .before .before .before .before .clear-all .ensures .0, c .before .before .before .fill-zero .ensures, fill-all slotWidth slotPlaces (s .keys .now) size, right)
+    let s : tie.Start = search in
+    let a = s .args in
+    let y : tie.After-clear-all = search in
+    let b : tie.After-both-locked = search in
+    let e : tie.Else1 = search in
+    let t : tie.Then2 = search in
+    let emptied = y .clear-all .ensures ∙ cleared-all-zeros (a .keys .now) in
+    let store : wrongStore (a .marks .now) ≡ false = right-store (a .marks .now) (e .if1 .left) in
+    let other : wrongCache (a .keys .now) ≡ true = wrong-cache (a .keys .now) (λ z. t .if2 .taken (omega arith)) in
+    rw (c .refused2 .ensures, b .both-locked .ensures, emptied, store, other)
+
+returns-3 : tie.Need-returns-3
+unfolding start freshRegisters zeros
+returns-3 c =
+    let s : tie.Start = search in
+    let a = s .args in
+    let y : tie.After-clear-all = search in
+    let b : tie.After-both-locked = search in
+    let e : tie.Else1 = search in
+    let g : tie.Else2 = search in
+    let z : tie.After-fill-zero = search in
+    let emptied = y .clear-all .ensures ∙ cleared-all-zeros (a .keys .now) in
+    let store : wrongStore (a .marks .now) ≡ false = right-store (a .marks .now) (e .if1 .left) in
+    let cache : wrongCache (a .keys .now) ≡ false = right-cache (a .keys .now) (omega arith) in
+    let unwritten = z .fill-zero .ensures ∙ ap zeros (e .if1 .left) in
+    rw (c .done .ensures, b .both-locked .ensures, emptied, unwritten, store, cache)
 
 pub start-spec : {M : Type 1} → statement M
 start-spec =
     tie.close
     (tie.spec
-    clear-all-requires
-    both-locked-requires
-    refused-requires
-    returns
-    fill-zero-requires
-    done-requires
-    same-length
-    returns-2)
+    (λ c κs. search needs) (λ c κs. search needs) (λ c κs. search needs) (λ c. search needs) returns
+    (λ c κs. search needs) (λ c. search needs) returns-2
+    (λ c κs. search needs) (λ c κs. search needs) (λ c. search needs) (λ c. search needs) returns-3)

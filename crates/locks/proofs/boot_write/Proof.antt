@@ -17,26 +17,26 @@ returns : tie.Need-returns
 unfolding bootWritten
 returns c = simp (lt-ltb _ _ (c .if1 .taken))
 
-enum-told : tie.Need-enum-told
-enum-told c = search needs
-
-enum-told-2 : tie.Need-enum-told-2
-enum-told-2 c = search needs
-
-enum-told-3 : tie.Need-enum-told-3
-enum-told-3 c = search needs
-
 returns-2 : tie.Need-returns-2
 unfolding bootWritten
-returns-2 c = simp (le-ltb _ _ (c .before .before .before .if1 .left), sym (lock-is (c .before .before)) ∙ c .enum-told .given .1)
+returns-2 c =
+    let joined2 : tie.Joined2 = search in
+    let else1 : tie.Else1 = search in
+    simp (le-ltb _ _ (else1 .if1 .left), sym (lock-is joined2) ∙ c .enum-told .given .1)
 
 returns-3 : tie.Need-returns-3
 unfolding bootWritten
-returns-3 c = simp (le-ltb _ _ (c .before .before .before .if1 .left), sym (lock-is (c .before .before)) ∙ c .enum-told2 .given .1)
+returns-3 c =
+    let joined2 : tie.Joined2 = search in
+    let else1 : tie.Else1 = search in
+    simp (le-ltb _ _ (else1 .if1 .left), sym (lock-is joined2) ∙ c .enum-told2 .given .1)
 
 returns-4 : tie.Need-returns-4
 unfolding bootWritten
-returns-4 c = simp (le-ltb _ _ (c .before .before .before .if1 .left), sym (lock-is (c .before .before)) ∙ c .enum-told3 .given .1)
+returns-4 c =
+    let joined2 : tie.Joined2 = search in
+    let else1 : tie.Else1 = search in
+    simp (le-ltb _ _ (else1 .if1 .left), sym (lock-is joined2) ∙ c .enum-told3 .given .1)
 
 pub boot-write-spec : {M : Type 1} → statement M
-boot-write-spec = tie.close (tie.spec returns enum-told enum-told-2 enum-told-3 returns-2 returns-3 returns-4)
+boot-write-spec = tie.close (tie.spec returns (λ c. search needs) (λ c. search needs) (λ c. search needs) returns-2 returns-3 returns-4)

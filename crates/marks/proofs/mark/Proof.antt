@@ -13,38 +13,58 @@ use Rattle.marks.proofs.mark.Tie as tie
 
 returns : tie.Need-returns
 unfolding marked
-returns c = rw (ne-eqb (length (c .before .before .before .args .marks .now)) storeSize (c .if1 .taken))
+returns c =
+    let s : tie.Start = search in
+    rw (ne-eqb (length (s .args .marks .now)) storeSize (c .if1 .taken))
 
 returns-2 : tie.Need-returns-2
 unfolding marked
-returns-2 c = rw (eq-eqb (length (c .before .before .before .before .args .marks .now)) storeSize (c .before .if1 .left), lt-leb (c .before .before .before .before .args .first) markPlaces (c .if2 .taken))
+returns-2 c =
+    let else1 : tie.Else1 = search in
+    let s : tie.Start = search in
+    rw (eq-eqb (length (s .args .marks .now)) storeSize (else1 .if1 .left), lt-leb (s .args .first) markPlaces (c .if2 .taken))
 
 returns-3 : tie.Need-returns-3
 unfolding marked
 returns-3 c =
-    let s = c .before .before .before .before .before .args in
-    rw (eq-eqb (length (s .marks .now)) storeSize (c .before .before .if1 .left), le-leb (s .first) markPlaces (c .before .if2 .left), lt-leb (s .n) (markPlaces - s .first) (c .if3 .taken))
+    let else2 : tie.Else2 = search in
+    let else1 : tie.Else1 = search in
+    let start : tie.Start = search in
+    let s = start .args in
+    rw (
+      eq-eqb (length (s .marks .now)) storeSize (else1 .if1 .left),
+      le-leb (s .first) markPlaces (else2 .if2 .left),
+      lt-leb (s .n) (markPlaces - s .first) (c .if3 .taken),
+    )
 
 returns-4 : tie.Need-returns-4
 unfolding marked
 returns-4 c =
-    let s = c .before .before .before .before .before .before .args in
-    rw (eq-eqb (length (s .marks .now)) storeSize (c .before .before .before .if1 .left), le-leb (s .first) markPlaces (c .before .before .if2 .left), le-leb (s .n) (markPlaces - s .first) (c .before .if3 .left), ne-eqb (length (s .identity .now)) markWidth (c .if4 .taken))
-
-mark-from-requires : tie.Need-mark-from-requires
-mark-from-requires c κs = search needs
-
-same-length : tie.Need-same-length
-same-length c = search needs
+    let else3 : tie.Else3 = search in
+    let else2 : tie.Else2 = search in
+    let else1 : tie.Else1 = search in
+    let start : tie.Start = search in
+    let s = start .args in
+    rw (
+      eq-eqb (length (s .marks .now)) storeSize (else1 .if1 .left),
+      le-leb (s .first) markPlaces (else2 .if2 .left),
+      le-leb (s .n) (markPlaces - s .first) (else3 .if3 .left),
+      ne-eqb (length (s .identity .now)) markWidth (c .if4 .taken),
+    )
 
 returns-5 : tie.Need-returns-5
 unfolding marked
 returns-5 c =
-    let s = c .before .before .before .before .before .before .before .before .before .before .args in
-    c .before .before .mark-from .ensures
-    ∙ (rw (eq-eqb (length (s .marks .now)) storeSize (omega arith), le-leb (s .first) markPlaces (omega arith), le-leb (s .n) (markPlaces - s .first) (omega arith), eq-eqb (length (s .identity .now)) markWidth (omega arith)))
+    let at-mark-from : tie.After-mark-from = search in
+    let start : tie.Start = search in
+    let s = start .args in
+    at-mark-from .mark-from .ensures
+    ∙ (rw (
+      eq-eqb (length (s .marks .now)) storeSize (omega arith),
+      le-leb (s .first) markPlaces (omega arith),
+      le-leb (s .n) (markPlaces - s .first) (omega arith),
+      eq-eqb (length (s .identity .now)) markWidth (omega arith),
+    ))
 
 pub mark-spec : {M : Type 1} → statement M
-mark-spec =
-    tie.close
-    (tie.spec returns returns-2 returns-3 returns-4 mark-from-requires same-length returns-5)
+mark-spec = tie.close (tie.spec returns returns-2 returns-3 returns-4 (λ c κs. search needs) (λ c. search needs) returns-5)

@@ -16,44 +16,39 @@ use Rattle.marks.proofs.zero_namespace.Tie as tie
 
 returns : tie.Need-returns
 unfolding zeroed
-returns c = rw (ne-eqb (length (c .before .before .args .marks .now)) storeSize (c .if1 .taken))
-
-cast-n : tie.Need-cast-n
-cast-n c = search needs
+returns c =
+    let s : tie.Start = search in
+    rw (ne-eqb (length (s .args .marks .now)) storeSize (c .if1 .taken))
 
 returns-2 : tie.Need-returns-2
 unfolding zeroed
-returns-2 c = rw (eq-eqb (length (c .before .before .before .before .args .marks .now)) storeSize (omega arith), lt-ltb (c .before .before .before .before .args .ns .0) 1 (c .if2 .taken))
+returns-2 c =
+    let s : tie.Start = search in
+    rw (eq-eqb (length (s .args .marks .now)) storeSize (omega arith), lt-ltb (s .args .ns .0) 1 (c .if2 .taken))
 
 returns-3 : tie.Need-returns-3
 unfolding zeroed
-returns-3 c = rw (eq-eqb (length (c .before .before .before .before .before .args .marks .now)) storeSize (omega arith), le-ltb (c .before .before .before .before .before .args .ns .0) 1 (c .before .if2 .left), lt-ltb namespaces (c .before .before .before .before .before .args .ns .0) (c .if3 .taken))
-
-mul-first : tie.Need-mul-first
-mul-first c = search needs
-
-mul-zero-part : tie.Need-mul-zero-part
-mul-zero-part c = search needs
-
-mul-zero-part-2 : tie.Need-mul-zero-part-2
-mul-zero-part-2 c = search needs
-
-zero-part-requires : tie.Need-zero-part-requires
-zero-part-requires c κs = search needs
-
-same-length : tie.Need-same-length
-same-length c = search needs
+returns-3 c =
+    let else2 : tie.Else2 = search in
+    let s : tie.Start = search in
+    rw (
+      eq-eqb (length (s .args .marks .now)) storeSize (omega arith),
+      le-ltb (s .args .ns .0) 1 (else2 .if2 .left),
+      lt-ltb namespaces (s .args .ns .0) (c .if3 .taken),
+    )
 
 returns-4 : tie.Need-returns-4
 unfolding zeroed
 returns-4 c =
-    let s = c .before .before .before .before .before .before .before .before .before .args in
+    let at-zero-part : tie.After-zero-part = search in
+    let start : tie.Start = search in
+    let s = start .args in
     let size : length (s .marks .now) ≡ storeSize = omega arith in
     let lo : 1 ≤ s .ns .0 = omega arith in
     let hi : s .ns .0 ≤ namespaces = omega arith in
     let i = (s .ns .0 - 1) * blocksEach in
     let at : i ≡ blockOf (s .ns) 0 = omega arith in
-    c .before .before .zero-part .ensures
+    at-zero-part .zero-part .ensures
     ∙ zero-cells markWidth i blocksEach (s .marks .now) (omega arith)
     ∙ ap (λ k. fill markWidth k blocksEach neverWritten (s .marks .now)) at
     ∙ (rw (eq-eqb (length (s .marks .now)) storeSize size, le-ltb (s .ns .0) 1 lo, le-ltb namespaces (s .ns .0) hi))
@@ -62,13 +57,5 @@ pub zero-namespace-spec : {M : Type 1} → statement M
 zero-namespace-spec =
     tie.close
     (tie.spec
-    returns
-    cast-n
-    returns-2
-    returns-3
-    mul-first
-    mul-zero-part
-    mul-zero-part-2
-    zero-part-requires
-    same-length
-    returns-4)
+    returns (λ c. search needs) returns-2 returns-3
+    (λ c. search needs) (λ c. search needs) (λ c. search needs) (λ c κs. search needs) (λ c. search needs) returns-4)

@@ -1,22 +1,48 @@
--- `tuffaleen_line` meets its contract: the state out of the image, `drive::answer_line`, and the
--- state back into it.
+-- `tuffaleen_line` meets its contract: the registers out of the image, `drive::answer_line` on the cache
+-- where it lies, and the registers back to the front.
 -- Assumes nothing.
 use borrow.Author.Needs.{needs}
-use Rattle.tuffaleen_c.proofs.ImageLaws.{state-in, c-called}
+use Rattle.tuffaleen_c.proofs.ImageLaws.{call-lends, lent-within, back-size, c-called}
 use Rattle.tuffaleen_c.proofs.tuffaleen_line.Statement.{statement}
 use Rattle.tuffaleen_c.proofs.tuffaleen_line.Tie as tie
 
-keys-in-requires : tie.Need-keys-in-requires
-keys-in-requires c κs = search needs
+no-image-requires : tie.Need-no-image-requires
+no-image-requires c κs = search needs
 
-drive-in-requires : tie.Need-drive-in-requires
-drive-in-requires c κs = search needs
+keys-at-requires : tie.Need-keys-at-requires
+keys-at-requires c κs = search needs
+
+registers-in-requires : tie.Need-registers-in-requires
+registers-in-requires c κs = search needs
+
+sub-answer-line : tie.Need-sub-answer-line
+sub-answer-line c =
+    let k : tie.After-keys-at = search in
+    let i : tie.After-no-image = search in
+    let s : tie.Start = search in
+    lent-within (call-lends (s .args .image .now) (i .no-image .ensures) (k .keys-at .ensures))
+
+part-answer-line-start : tie.Need-part-answer-line-start
+part-answer-line-start c =
+    let k : tie.After-keys-at = search in
+    let i : tie.After-no-image = search in
+    let s : tie.Start = search in
+    lent-within (call-lends (s .args .image .now) (i .no-image .ensures) (k .keys-at .ensures))
+
+part-answer-line-end : tie.Need-part-answer-line-end
+part-answer-line-end c = search needs
 
 answer-line-requires : tie.Need-answer-line-requires
 answer-line-requires c κs = search needs
 
 save-requires : tie.Need-save-requires
-save-requires c κs = search needs
+save-requires c κs =
+    let r : tie.After-answer-line = search in
+    let k : tie.After-keys-at = search in
+    let i : tie.After-no-image = search in
+    let s : tie.Start = search in
+    let lends = call-lends (s .args .image .now) (i .no-image .ensures) (k .keys-at .ensures) in
+    back-size lends (r .answer-line .last .1 .0) (r .answer-line .kept .1 .0)
 
 number-requires : tie.Need-number-requires
 number-requires c κs = search needs
@@ -32,16 +58,26 @@ same-length-3 c = search needs
 
 returns : tie.Need-returns
 returns c =
-    let s = c .before .before .before .before .before .before .before .before .before .before .before .before .before .before .before .before .before .before .before .before .before .before .before .before .args in
-    let from = state-in (s .image .now) _ (s .marks .now) _ (c .before .before .before .before .before .before .before .before .before .before .before .before .before .before .before .drive-in .ensures) (c .before .before .before .before .before .before .before .before .before .before .before .before .before .before .before .before .before .keys-in .ensures) in
-    c-called (s .image .now) (s .marks .now) _ _ _ from (s .line .now) (s .out .now) _ (c .before .before .before .before .before .before .before .before .before .before .before .answer-line .ensures) (c .before .before .before .save .ensures) (c .number .ensures)
+    let v : tie.After-save = search in
+    let r : tie.After-answer-line = search in
+    let g : tie.After-registers-in = search in
+    let k : tie.After-keys-at = search in
+    let i : tie.After-no-image = search in
+    let s : tie.Start = search in
+    let a = s .args in
+    c-called (a .image .now) (a .marks .now) (i .no-image .ensures) (k .keys-at .ensures) (g .registers-in .ensures) (a .line .now) (a .out .now)
+    (r .answer-line .ensures) (r .answer-line .kept .1 .0, v .save .ensures) (c .number .ensures)
 
 pub tuffaleen-line-spec : {M : Type 1} → statement M
 tuffaleen-line-spec =
     tie.close
     (tie.spec
-    keys-in-requires
-    drive-in-requires
+    no-image-requires
+    keys-at-requires
+    registers-in-requires
+    sub-answer-line
+    part-answer-line-start
+    part-answer-line-end
     answer-line-requires
     save-requires
     number-requires

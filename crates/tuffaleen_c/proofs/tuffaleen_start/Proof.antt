@@ -1,38 +1,37 @@
--- `tuffaleen_start` meets its contract: an image of another length is refused, and
--- any other takes the fresh state.
+-- `tuffaleen_start` meets its contract: `drive::start` on the cache where it lies, and the registers to the front.
 -- Assumes nothing.
 use borrow.Author.Needs.{needs}
-use borrow.Author.Tests.{eq-eqb, ne-eqb}
-use lib.ListN.{length}
-use Rattle.rules.specs.Numbers.{storeSize}
-use Rattle.tuffaleen_c.specs.Image.{imageSize, cStart}
-use Rattle.tuffaleen_c.proofs.ImageLaws.{c-started}
+use Rattle.tuffaleen_c.proofs.ImageLaws.{start-lends, lent-within, back-size, c-started}
 use Rattle.tuffaleen_c.proofs.tuffaleen_start.Statement.{statement}
 use Rattle.tuffaleen_c.proofs.tuffaleen_start.Tie as tie
 
-refused-requires : tie.Need-refused-requires
-refused-requires c κs = search needs
+keys-at-requires : tie.Need-keys-at-requires
+keys-at-requires c κs = search needs
 
-returns : tie.Need-returns
-unfolding cStart
-returns c =
-    let s = c .before .before .before .before .before .args in
-    rw (c .refused .ensures, ne-eqb (length (s .image .now)) imageSize (c .before .before .if1 .taken), ne-eqb (length (s .marks .now)) storeSize (c .before .if2 .taken))
+sub-start : tie.Need-sub-start
+sub-start c =
+    let k : tie.After-keys-at = search in
+    let s : tie.Start = search in
+    lent-within (start-lends (s .args .image .now) (k .keys-at .ensures))
 
-refused-requires-2 : tie.Need-refused-requires-2
-refused-requires-2 c κs = search needs
+part-start-start : tie.Need-part-start-start
+part-start-start c =
+    let k : tie.After-keys-at = search in
+    let s : tie.Start = search in
+    lent-within (start-lends (s .args .image .now) (k .keys-at .ensures))
 
-returns-2 : tie.Need-returns-2
-unfolding cStart
-returns-2 c =
-    let s = c .before .before .before .before .before .args in
-    rw (c .refused2 .ensures, ne-eqb (length (s .image .now)) imageSize (c .before .before .if1 .taken), eq-eqb (length (s .marks .now)) storeSize (c .before .if2 .left))
+part-start-end : tie.Need-part-start-end
+part-start-end c = search needs
 
 start-requires : tie.Need-start-requires
 start-requires c κs = search needs
 
-write-requires : tie.Need-write-requires
-write-requires c κs = search needs
+save-requires : tie.Need-save-requires
+save-requires c κs =
+    let r : tie.After-start = search in
+    let k : tie.After-keys-at = search in
+    let s : tie.Start = search in
+    back-size (start-lends (s .args .image .now) (k .keys-at .ensures)) (r .start .last .0) (r .start .kept .0)
 
 number-requires : tie.Need-number-requires
 number-requires c κs = search needs
@@ -43,22 +42,26 @@ same-length c = search needs
 same-length-2 : tie.Need-same-length-2
 same-length-2 c = search needs
 
-returns-3 : tie.Need-returns-3
-returns-3 c =
-    let s = c .before .before .before .before .before .before .before .before .before .before .before .before .before .before .before .args in
-    c-started (s .image .now) (s .marks .now) _ _ _ (c .before .before .before .before .before .before .before .before .before .before .before .before .if1 .left) (c .before .before .before .before .before .before .before .before .before .start .ensures) (c .before .before .before .write .ensures) (c .number .ensures)
+returns : tie.Need-returns
+returns c =
+    let v : tie.After-save = search in
+    let r : tie.After-start = search in
+    let k : tie.After-keys-at = search in
+    let s : tie.Start = search in
+    let a = s .args in
+    c-started (a .image .now) (a .marks .now) (k .keys-at .ensures) (r .start .ensures) (r .start .kept .0, v .save .ensures) (c .number .ensures)
 
 pub tuffaleen-start-spec : {M : Type 1} → statement M
 tuffaleen-start-spec =
     tie.close
     (tie.spec
-    refused-requires
-    returns
-    refused-requires-2
-    returns-2
+    keys-at-requires
+    sub-start
+    part-start-start
+    part-start-end
     start-requires
-    write-requires
+    save-requires
     number-requires
     same-length
     same-length-2
-    returns-3)
+    returns)

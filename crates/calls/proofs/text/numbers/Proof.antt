@@ -65,19 +65,5 @@ pub numbers-spec : {M : Type 1} → statement M
 numbers-spec =
     tie.close
     (tie.spec
-    Inv-loop
-    μ-loop
-    loop-holds
-    returns
-    shared-slice-read-wrapping-sub-u8
-    wrapping-sub-u8-requires
-    mul-with-digit
-    array-read-with-digit
-    with-digit-requires
-    mul-all
-    array-write-all
-    add-k
-    add-i
-    loop-less
-    loop-again
-    returns-2)
+    Inv-loop μ-loop loop-holds returns shared-slice-read-wrapping-sub-u8 wrapping-sub-u8-requires mul-with-digit array-read-with-digit
+    with-digit-requires mul-all array-write-all add-k add-i loop-less loop-again returns-2)

@@ -1,76 +1,61 @@
 -- `locate` meets its contract: each return is one of the checks.
 -- Assumes nothing.
 use borrow.Author.Needs.{needs}
-use mathlib.Core.Path.{sym, _∙_}
+use mathlib.Core.Path.{_≡_, sym, ap, _∙_}
+use mathlib.Core.Bool.{true, false}
 use mathlib.Core.List.{[]}
-use borrow.Author.Tests.{eq-eqb, ne-eqb, le-leb, lt-leb}
-use Rattle.rules.specs.State.{count}
+use Prim.Native.Nat.{ℕ}
+use Rattle.rules.specs.State.{noNamespace, managed}
 use Rattle.rules.proofs.StateLaws.{is-namespace}
-use Rattle.drive.specs.Stepping.{state, located}
+use Rattle.drive.specs.Acting.{state, placed, located}
+use Rattle.drive.proofs.KeysLaws.{managed-by, unmanaged-by}
 use Rattle.drive.proofs.answers.locate.Statement.{statement}
 use Rattle.drive.proofs.answers.locate.Tie as tie
 
-no-namespace-requires : tie.Need-no-namespace-requires
-no-namespace-requires c κs = search needs
-
 returns : tie.Need-returns
 unfolding located
-returns c = rw (sym (c .before .no-namespace .ensures) ∙ c .if1 .taken)
+returns c =
+    let n : tie.After-no-namespace = search in
+    rw (sym (n .no-namespace .ensures) ∙ c .if1 .taken)
 
 count-requires : tie.Need-count-requires
-count-requires c κs = is-namespace (c .before .before .args .ns) (sym (c .before .no-namespace .ensures) ∙ c .if1 .left)
+count-requires c κs =
+    let s : tie.Start = search in
+    let n : tie.After-no-namespace = search in
+    let e : tie.Else1 = search in
+    is-namespace (s .args .ns) (sym (n .no-namespace .ensures) ∙ e .if1 .left)
 
 returns-2 : tie.Need-returns-2
 unfolding located
 returns-2 c =
-    let s = c .before .before .before .before .args in
-    rw (sym (c .before .before .before .no-namespace .ensures) ∙ c .before .before .if1 .left, eq-eqb (count (state (s .drive) [] []) (s .ns)) 0 (sym (c .before .count .ensures) ∙ c .if2 .taken))
+    let s : tie.Start = search in
+    let a = s .args in
+    let n : tie.After-no-namespace = search in
+    let e : tie.Else1 = search in
+    let k : tie.After-count = search in
+    let named : noNamespace (a .ns) ≡ false = sym (n .no-namespace .ensures) ∙ e .if1 .left in
+    let free : managed (state (a .registers) [] []) (a .ns) ≡ false = unmanaged-by (a .registers) (a .ns) _ (k .count .ensures) (c .if2 .taken) in
+    rw (named, free)
 
-cast-t : tie.Need-cast-t
-cast-t c = search needs
-
-cast-if3 : tie.Need-cast-if3
-cast-if3 c = search needs
+place-requires : tie.Need-place-requires
+place-requires c κs =
+    let s : tie.Start = search in
+    let n : tie.After-no-namespace = search in
+    let e : tie.Else1 = search in
+    is-namespace (s .args .ns) (sym (n .no-namespace .ensures) ∙ e .if1 .left)
 
 returns-3 : tie.Need-returns-3
-unfolding located
+unfolding located placed
 returns-3 c =
-    let s = c .before .before .before .before .before .before .args in
-    let n = c .before .before .before .count .ensures in
-    rw (sym (c .before .before .before .before .before .no-namespace .ensures) ∙ c .before .before .before .before .if1 .left, ne-eqb (count (state (s .drive) [] []) (s .ns)) 0 (λ z. c .before .before .if2 .left (n ∙ z)), le-leb (count (state (s .drive) [] []) (s .ns)) (s .tag .0) (rw (← n) (c .if3 .taken)))
-
-cast-t10 : tie.Need-cast-t10
-cast-t10 c = search needs
-
-sub-t12 : tie.Need-sub-t12
-sub-t12 c = is-namespace (c .before .before .before .before .before .before .before .args .ns) (sym (c .before .before .before .before .before .before .no-namespace .ensures) ∙ c .before .before .before .before .before .if1 .left) .0
-
-mul-t13 : tie.Need-mul-t13
-mul-t13 c = search needs
-
-add-t14 : tie.Need-add-t14
-add-t14 c = search needs
-
-returns-4 : tie.Need-returns-4
-unfolding located
-returns-4 c =
-    let s = c .before .before .before .before .before .before .before .args in
-    let n = c .before .before .before .before .count .ensures in
-    rw (sym (c .before .before .before .before .before .before .no-namespace .ensures) ∙ c .before .before .before .before .before .if1 .left, ne-eqb (count (state (s .drive) [] []) (s .ns)) 0 (λ z. c .before .before .before .if2 .left (n ∙ z)), lt-leb (count (state (s .drive) [] []) (s .ns)) (s .tag .0) (rw (← n) (c .before .if3 .left)))
+    let s : tie.Start = search in
+    let a = s .args in
+    let n : tie.After-no-namespace = search in
+    let e : tie.Else1 = search in
+    let k : tie.After-count = search in
+    let g : tie.Else2 = search in
+    let named : noNamespace (a .ns) ≡ false = sym (n .no-namespace .ensures) ∙ e .if1 .left in
+    let held : managed (state (a .registers) [] []) (a .ns) ≡ true = managed-by (a .registers) (a .ns) _ (k .count .ensures) (g .if2 .left) in
+    rw (named, held) (c .place .ensures ∙ ap (λ (m : ℕ). placed m (a .ns) (a .tag)) (k .count .ensures))
 
 pub locate-spec : {M : Type 1} → statement M
-locate-spec =
-    tie.close
-    (tie.spec
-    no-namespace-requires
-    returns
-    count-requires
-    returns-2
-    cast-t
-    cast-if3
-    returns-3
-    cast-t10
-    sub-t12
-    mul-t13
-    add-t14
-    returns-4)
+locate-spec = tie.close (tie.spec (λ c κs. search needs) returns count-requires returns-2 place-requires returns-3)

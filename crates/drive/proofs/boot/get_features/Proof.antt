@@ -5,12 +5,9 @@ use Rattle.rules.specs.Order.{getFeatures}
 use Rattle.drive.proofs.boot.get_features.Statement.{statement}
 use Rattle.drive.proofs.boot.get_features.Tie as tie
 
-shown-requires : tie.Need-shown-requires
-shown-requires c κs = search needs
-
 returns : tie.Need-returns
 unfolding getFeatures
-returns c = λ k m. rw (c .shown .ensures)
+returns c = λ keys marks. rw (c .shown .ensures)
 
 pub get-features-spec : {M : Type 1} → statement M
-get-features-spec = tie.close (tie.spec shown-requires returns)
+get-features-spec = tie.close (tie.spec (λ c κs. search needs) returns)

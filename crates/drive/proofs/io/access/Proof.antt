@@ -2,7 +2,7 @@
 -- Assumes nothing.
 use mathlib.Core.Logic.{inl, inr, ⊎-elim}
 use borrow.Author.Tests.{ne-eqb}
-use Rattle.drive.specs.Stepping.{accessOf}
+use Rattle.drive.specs.Acting.{accessOf}
 use Rattle.drive.proofs.io.access.Statement.{statement}
 use Rattle.drive.proofs.io.access.Tie as tie
 

@@ -6,59 +6,35 @@ use Rattle.drive.proofs.IoLaws.{known-leads}
 use Rattle.drive.proofs.io.known.Statement.{statement}
 use Rattle.drive.proofs.io.known.Tie as tie
 
-reach-requires : tie.Need-reach-requires
-reach-requires c κs = search needs
-
-enum-known-r : tie.Need-enum-known-r
-enum-known-r c = search needs
-
-refused-requires : tie.Need-refused-requires
-refused-requires c κs = search needs
-
-enum-told : tie.Need-enum-told
-enum-told c = search needs
-
-done-requires : tie.Need-done-requires
-done-requires c κs = search needs
-
-enum-known-place : tie.Need-enum-known-place
-enum-known-place c = search needs
-
 at-place-requires : tie.Need-at-place-requires
 at-place-requires c κs =
-    let p = c .before .before .before .before .before .before .pre in
-    (p .0, p .1, sym (c .before .before .place .given .1) ∙ c .before .before .before .before .reach .ensures)
+    let s : tie.Start = search in
+    let r : tie.After-reach = search in
+    let p : tie.After-place = search in
+    (s .pre .0, s .pre .1, sym (p .place .given .1) ∙ r .reach .ensures)
 
 returns : tie.Need-returns
 returns c =
-    let a = c .before .before .before .before in
-    let s = a .before .before .args in
-    rw (c .refused .ensures) (known-leads (s .drive) (s .keys .now) (s .marks .now) (s .c) (s .writes) (a .before .before .pre .1) (sym (c .before .before .r .given .1) ∙ a .reach .ensures))
+    let s : tie.Start = search in
+    let reached : tie.After-reach = search in
+    let r : tie.After-r = search in
+    let a = s .args in
+    rw (c .refused .ensures)
+    (known-leads (a .registers) (a .keys .now) (a .marks .now) (a .c) (a .writes) (s .pre .1) (sym (r .r .given .1) ∙ reached .reach .ensures))
 
 returns-2 : tie.Need-returns-2
 returns-2 c =
-    let a = c .before .before .before in
-    let s = a .before .before .args in
-    rw (c .done .ensures) (known-leads (s .drive) (s .keys .now) (s .marks .now) (s .c) (s .writes) (a .before .before .pre .1) (sym (c .before .enum-told .given .1) ∙ a .reach .ensures))
-
-same-length : tie.Need-same-length
-same-length c = search needs
-
-returns-3 : tie.Need-returns-3
-returns-3 c = search needs
+    let s : tie.Start = search in
+    let reached : tie.After-reach = search in
+    let t : tie.After-enum-told = search in
+    let a = s .args in
+    rw (c .done .ensures)
+    (known-leads (a .registers) (a .keys .now) (a .marks .now) (a .c) (a .writes) (s .pre .1) (sym (t .enum-told .given .1) ∙ reached .reach .ensures))
 
 pub known-spec : {M : Type 1} → statement M
 known-spec =
     tie.close
     (tie.spec
-    reach-requires
-    enum-known-r
-    refused-requires
-    enum-told
-    done-requires
-    enum-known-place
-    at-place-requires
-    returns
-    returns-2
-    same-length
-    returns-3)
+    (λ c κs. search needs) (λ c. search needs) (λ c κs. search needs) (λ c. search needs) (λ c κs. search needs) (λ c. search needs)
+    at-place-requires returns returns-2
+    (λ c. search needs) (λ c. search needs))

@@ -1,58 +1,71 @@
 -- `clear_all` meets its contract: each return is one of the checks.
 -- Assumes nothing.
 use borrow.Author.Needs.{needs}
-use mathlib.Core.Path.{sym, _∙_}
+use mathlib.Core.Path.{_≡_, sym, _∙_}
+use mathlib.Core.Bool.{true, false}
 use mathlib.Core.List.{[]}
-use borrow.Author.Tests.{eq-eqb, ne-eqb}
-use Rattle.rules.specs.State.{count}
+use Rattle.rules.specs.State.{noNamespace, managed}
 use Rattle.rules.specs.Effects.{emptySlots}
 use Rattle.rules.specs.Order.{clearAll}
 use Rattle.rules.proofs.StateLaws.{is-namespace}
-use Rattle.slots.specs.Cache.{clearedNamespace}
-use Rattle.drive.specs.Stepping.{state}
+use Rattle.slots.proofs.CacheLaws.{cleared-namespace-is}
+use Rattle.drive.specs.Acting.{state}
+use Rattle.drive.proofs.KeysLaws.{managed-by, unmanaged-by}
 use Rattle.drive.proofs.keys.clear_all.Statement.{statement}
 use Rattle.drive.proofs.keys.clear_all.Tie as tie
 
-no-namespace-requires : tie.Need-no-namespace-requires
-no-namespace-requires c κs = search needs
-
-refused-requires : tie.Need-refused-requires
-refused-requires c κs = search needs
-
 returns : tie.Need-returns
 unfolding clearAll
-returns c = λ m. rw (c .refused .ensures, sym (c .before .before .no-namespace .ensures) ∙ c .before .if1 .taken)
+returns c =
+    λ marks.
+    let s : tie.Start = search in
+    let a = s .args in
+    let n : tie.After-no-namespace = search in
+    let t : tie.Then1 = search in
+    let unnamed : noNamespace (a .ns) ≡ true = sym (n .no-namespace .ensures) ∙ t .if1 .taken in
+    rw (c .refused .ensures, unnamed)
 
 count-requires : tie.Need-count-requires
-count-requires c κs = is-namespace (c .before .before .args .ns) (sym (c .before .no-namespace .ensures) ∙ c .if1 .left)
-
-refused-requires-2 : tie.Need-refused-requires-2
-refused-requires-2 c κs = search needs
+count-requires c κs =
+    let s : tie.Start = search in
+    let n : tie.After-no-namespace = search in
+    let e : tie.Else1 = search in
+    is-namespace (s .args .ns) (sym (n .no-namespace .ensures) ∙ e .if1 .left)
 
 returns-2 : tie.Need-returns-2
 unfolding clearAll
-returns-2 c = λ m. rw (c .refused2 .ensures, sym (c .before .before .before .before .no-namespace .ensures) ∙ c .before .before .before .if1 .left, eq-eqb (count (state (c .before .before .before .before .before .args .drive) [] []) (c .before .before .before .before .before .args .ns)) 0 (sym (c .before .before .count .ensures) ∙ c .before .if2 .taken))
-
-clear-namespace-requires : tie.Need-clear-namespace-requires
-clear-namespace-requires c κs = search needs
-
-done-requires : tie.Need-done-requires
-done-requires c κs = search needs
+returns-2 c =
+    λ marks.
+    let s : tie.Start = search in
+    let a = s .args in
+    let n : tie.After-no-namespace = search in
+    let e : tie.Else1 = search in
+    let k : tie.After-count = search in
+    let t : tie.Then2 = search in
+    let named : noNamespace (a .ns) ≡ false = sym (n .no-namespace .ensures) ∙ e .if1 .left in
+    let free : managed (state (a .registers) [] []) (a .ns) ≡ false = unmanaged-by (a .registers) (a .ns) _ (k .count .ensures) (t .if2 .taken) in
+    rw (c .refused2 .ensures, named, free)
 
 returns-3 : tie.Need-returns-3
-unfolding clearAll clearedNamespace emptySlots
-returns-3 c = λ m. rw (c .done .ensures, c .before .clear-namespace .ensures, sym (c .before .before .before .before .before .before .no-namespace .ensures) ∙ c .before .before .before .before .before .if1 .left, ne-eqb (count (state (c .before .before .before .before .before .before .before .args .drive) [] []) (c .before .before .before .before .before .before .before .args .ns)) 0 (λ z. c .before .before .before .if2 .left (c .before .before .before .before .count .ensures ∙ z)))
+unfolding clearAll emptySlots
+returns-3 c =
+    λ marks.
+    let s : tie.Start = search in
+    let a = s .args in
+    let n : tie.After-no-namespace = search in
+    let e : tie.Else1 = search in
+    let k : tie.After-count = search in
+    let g : tie.Else2 = search in
+    let y : tie.After-clear-namespace = search in
+    let named : noNamespace (a .ns) ≡ false = sym (n .no-namespace .ensures) ∙ e .if1 .left in
+    let held : managed (state (a .registers) [] []) (a .ns) ≡ true = managed-by (a .registers) (a .ns) _ (k .count .ensures) (g .if2 .left) in
+    let emptied = y .clear-namespace .ensures ∙ cleared-namespace-is (a .keys .now) (s .pre) (a .ns) named in
+    rw (c .done .ensures, emptied, named, held)
 
 pub clear-all-spec : {M : Type 1} → statement M
 clear-all-spec =
     tie.close
     (tie.spec
-    no-namespace-requires
-    refused-requires
-    returns
-    count-requires
-    refused-requires-2
-    returns-2
-    clear-namespace-requires
-    done-requires
-    returns-3)
+    (λ c κs. search needs) (λ c κs. search needs) returns count-requires
+    (λ c κs. search needs) returns-2
+    (λ c κs. search needs) (λ c κs. search needs) (λ c. search needs) returns-3)

@@ -1,57 +1,71 @@
 -- `replace_at` meets its contract: each return is one of the checks.
 -- Assumes nothing.
 use borrow.Author.Needs.{needs}
-use mathlib.Core.Path.{sym, _∙_}
+use mathlib.Core.Path.{_≡_, _∙_}
+use mathlib.Core.Bool.{true, false}
 use borrow.Author.Tests.{not-true, not-false}
 use Rattle.cells.specs.Cells.{cell}
-use Rattle.cells.specs.Tests.{same}
+use Rattle.cells.specs.Predicates.{same}
 use Rattle.rules.specs.Numbers.{slotWidth}
 use Rattle.rules.specs.Slots.{empty, uidOf}
-use Rattle.drive.specs.Stepping.{replaceAt}
-use Rattle.drive.proofs.SteppingLaws.{uid-only}
+use Rattle.drive.specs.Acting.{replaceAt}
+use Rattle.drive.proofs.ActingLaws.{cache-of}
+use Rattle.drive.proofs.KeysLaws.{empty-by, full-by, holds-by}
 use Rattle.drive.proofs.keys.replace_at.Statement.{statement}
 use Rattle.drive.proofs.keys.replace_at.Tie as tie
 
-loaded-requires : tie.Need-loaded-requires
-loaded-requires c κs = search needs
-
-refused-requires : tie.Need-refused-requires
-refused-requires c κs = search needs
-
 returns : tie.Need-returns
 unfolding replaceAt
-returns c = λ m. rw (c .refused .ensures, not-false (empty (cell slotWidth (c .before .before .before .before .before .before .before .args .place) (c .before .before .before .before .before .before .before .args .keys .now))) (sym (c .before .before .loaded .ensures) ∙ not-true _ (c .before .if1 .taken)))
-
-holds-uid-requires : tie.Need-holds-uid-requires
-holds-uid-requires c κs = search needs
-
-refused-requires-2 : tie.Need-refused-requires-2
-refused-requires-2 c κs = search needs
+returns c =
+    λ marks.
+    let s : tie.Start = search in
+    let a = s .args in
+    let l : tie.After-loaded = search in
+    let t : tie.Then1 = search in
+    let size = cache-of (a .registers) (a .keys .now) (s .pre .2) in
+    let none : empty (cell slotWidth (a .place) (a .keys .now)) ≡ true =
+    empty-by (a .keys .now) size (a .place) _ (l .loaded .ensures) (t .if1 .taken) in
+    rw (c .refused .ensures, none)
 
 returns-2 : tie.Need-returns-2
 unfolding replaceAt
-returns-2 c = λ m. rw (c .refused2 .ensures, not-true (empty (cell slotWidth (c .before .before .before .before .before .before .before .before .before .before .args .place) (c .before .before .before .before .before .before .before .before .before .before .args .keys .now))) (sym (c .before .before .before .before .before .loaded .ensures) ∙ not-false _ (c .before .before .before .before .if1 .left)), uid-only (empty (cell slotWidth (c .before .before .before .before .before .before .before .before .before .before .args .place) (c .before .before .before .before .before .before .before .before .before .before .args .keys .now))) (same (uidOf (cell slotWidth (c .before .before .before .before .before .before .before .before .before .before .args .place) (c .before .before .before .before .before .before .before .before .before .before .args .keys .now))) (c .before .before .before .before .before .before .before .before .before .before .args .old .now)) _ (c .before .before .holds-uid .ensures) (not-true (empty (cell slotWidth (c .before .before .before .before .before .before .before .before .before .before .args .place) (c .before .before .before .before .before .before .before .before .before .before .args .keys .now))) (sym (c .before .before .before .before .before .loaded .ensures) ∙ not-false _ (c .before .before .before .before .if1 .left))) ∙ not-true _ (c .before .if2 .taken))
-
-put-requires : tie.Need-put-requires
-put-requires c κs = c .before .before .before .before .before .before .before .before .before .before .pre
+returns-2 c =
+    λ marks.
+    let s : tie.Start = search in
+    let a = s .args in
+    let l : tie.After-loaded = search in
+    let e : tie.Else1 = search in
+    let u : tie.After-holds-uid = search in
+    let t : tie.Then2 = search in
+    let size = cache-of (a .registers) (a .keys .now) (s .pre .2) in
+    let full : empty (cell slotWidth (a .place) (a .keys .now)) ≡ false =
+    full-by (a .keys .now) size (a .place) _ (l .loaded .ensures) (e .if1 .left) in
+    let holds : same (uidOf (cell slotWidth (a .place) (a .keys .now))) (a .old .now) ≡ false =
+    holds-by (a .keys .now) size (a .place) (a .old .now) _ (u .holds-uid .ensures) full ∙ not-true _ (t .if2 .taken) in
+    rw (c .refused2 .ensures, full, holds)
 
 returns-3 : tie.Need-returns-3
 unfolding replaceAt
 returns-3 c =
-    let s = c .before .before .before .before .before .before .before .before .before .before .before .args in
-    let slot = cell slotWidth (s .place) (s .keys .now) in
-    let full = not-true (empty slot) (sym (c .before .before .before .before .before .before .loaded .ensures) ∙ not-false _ (c .before .before .before .before .before .if1 .left)) in
-    λ m. rw (full, uid-only (empty slot) (same (uidOf slot) (s .old .now)) _ (c .before .before .before .holds-uid .ensures) full ∙ not-false _ (c .before .before .if2 .left)) (c .put .ensures m)
+    λ marks.
+    let s : tie.Start = search in
+    let a = s .args in
+    let l : tie.After-loaded = search in
+    let e : tie.Else1 = search in
+    let u : tie.After-holds-uid = search in
+    let g : tie.Else2 = search in
+    let p : tie.After-put = search in
+    let size = cache-of (a .registers) (a .keys .now) (s .pre .2) in
+    let full : empty (cell slotWidth (a .place) (a .keys .now)) ≡ false =
+    full-by (a .keys .now) size (a .place) _ (l .loaded .ensures) (e .if1 .left) in
+    let holds : same (uidOf (cell slotWidth (a .place) (a .keys .now))) (a .old .now) ≡ true =
+    holds-by (a .keys .now) size (a .place) (a .old .now) _ (u .holds-uid .ensures) full ∙ not-false _ (g .if2 .left) in
+    rw (full, holds) (p .put .ensures marks)
 
 pub replace-at-spec : {M : Type 1} → statement M
 replace-at-spec =
     tie.close
     (tie.spec
-    loaded-requires
-    refused-requires
-    returns
-    holds-uid-requires
-    refused-requires-2
-    returns-2
-    put-requires
-    returns-3)
+    (λ c κs. search needs) (λ c κs. search needs) (λ c. search needs) returns
+    (λ c κs. search needs) (λ c κs. search needs) (λ c. search needs) returns-2
+    (λ c κs. search needs) (λ c. search needs) returns-3)

@@ -8,23 +8,11 @@ use Rattle.rules.specs.Numbers.{slotWidth}
 use Rattle.slots.proofs.bytes.clear_run.Statement.{statement}
 use Rattle.slots.proofs.bytes.clear_run.Tie as tie
 
-mul-zero-part : tie.Need-mul-zero-part
-mul-zero-part c = search needs
-
-mul-zero-part-2 : tie.Need-mul-zero-part-2
-mul-zero-part-2 c = search needs
-
-zero-part-requires : tie.Need-zero-part-requires
-zero-part-requires c κs = search needs
-
-same-length : tie.Need-same-length
-same-length c = search needs
-
 returns : tie.Need-returns
 returns c =
-    let a = c .before .before .before .before .before in
-    (c .before .before .zero-part .ensures ∙ zero-cells slotWidth (a .args .first) (a .args .n) (a .args .keys .now) (omega arith), a .pre .0)
+    let s : tie.Start = search in
+    let a : tie.After-zero-part = search in
+    a .zero-part .ensures ∙ zero-cells slotWidth (s .args .first) (s .args .n) (s .args .keys .now) (omega arith)
 
 pub clear-run-spec : {M : Type 1} → statement M
-clear-run-spec =
-    tie.close (tie.spec mul-zero-part mul-zero-part-2 zero-part-requires same-length returns)
+clear-run-spec = tie.close (tie.spec (λ c. search needs) (λ c. search needs) (λ c κs. search needs) (λ c. search needs) returns)

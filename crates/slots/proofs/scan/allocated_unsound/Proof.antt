@@ -5,8 +5,8 @@ use native.Mathlib.Omega.{arith}
 use mathlib.Core.Path.{_≡_, refl, sym, ap, _∙_}
 use mathlib.Core.Bool.{false}
 use Prim.Native.Nat.{_+_, _-_, _≤_}
-use Rattle.cells.specs.Tests.{someCell}
-use Rattle.cells.proofs.TestsLaws.{some-start, some-next, some-hit}
+use Rattle.cells.specs.Predicates.{someCell}
+use Rattle.cells.proofs.PredicatesLaws.{some-start, some-next, some-hit}
 use Rattle.rules.specs.Numbers.{slotWidth, slotPlaces}
 use Rattle.slots.proofs.ScanLaws.{allocatedUnsound}
 use Rattle.slots.proofs.scan.allocated_unsound.Statement.{statement}
@@ -21,48 +21,39 @@ abbrev μ-loop : tie.MeasureT-loop
 loop-holds : tie.Need-loop-holds Inv-loop μ-loop
 loop-holds c = (search needs, search needs, some-start slotWidth allocatedUnsound _ _)
 
-add-slot-unsound : tie.Need-add-slot-unsound Inv-loop μ-loop
-add-slot-unsound c = omega arith
-
 slot-unsound-requires : tie.Need-slot-unsound-requires Inv-loop μ-loop
 slot-unsound-requires c κs = (search needs, omega arith)
 
 returns : tie.Need-returns Inv-loop μ-loop
 returns c =
-    let s = c .before .before .before .before .before .args in
-    let l = c .before .before .before .loop in
-    some-hit slotWidth allocatedUnsound (s .first) (s .n) (s .first + l .i) (s .keys .now) (omega arith) (omega arith) (sym (c .before .slot-unsound .ensures) ∙ c .if1 .taken)
-
-add-i : tie.Need-add-i Inv-loop μ-loop
-add-i c = omega arith
-
-loop-less : tie.Need-loop-less Inv-loop μ-loop
-loop-less c = omega arith
+    let s : tie.Start Inv-loop μ-loop = search in
+    let l : tie.At-loop Inv-loop μ-loop = search in
+    let a : tie.After-slot-unsound Inv-loop μ-loop = search in
+    let h = s .args in
+    some-hit slotWidth allocatedUnsound (h .first) (h .n) (h .first + l .loop .i) (h .keys .now) (omega arith) (omega arith)
+    (sym (a .slot-unsound .ensures) ∙ c .if1 .taken)
 
 loop-again : tie.Need-loop-again Inv-loop μ-loop
 loop-again c =
-    let s = c .before .before .before .before .before .args in
-    let l = c .before .before .before .loop in
-    (omega arith, omega arith, some-next slotWidth allocatedUnsound (s .first) (l .i) (s .first + l .i) (s .keys .now) refl (l .inv .2) (sym (c .before .slot-unsound .ensures) ∙ c .if1 .left))
+    let s : tie.Start Inv-loop μ-loop = search in
+    let l : tie.At-loop Inv-loop μ-loop = search in
+    let a : tie.After-slot-unsound Inv-loop μ-loop = search in
+    let h = s .args in
+    let none =
+    some-next slotWidth allocatedUnsound (h .first) (l .loop .i) (h .first + l .loop .i) (h .keys .now) refl (l .loop .inv .2)
+    (sym (a .slot-unsound .ensures) ∙ c .if1 .left) in
+    (omega arith, omega arith, none)
 
 returns-2 : tie.Need-returns-2 Inv-loop μ-loop
 returns-2 c =
-    let s = c .before .before .before .args in
-    let l = c .before .loop in
-    let e : l .i ≡ s .n = omega arith in
-    sym (l .inv .2) ∙ ap (λ n. someCell slotWidth (s .first) n allocatedUnsound (s .keys .now)) e
+    let s : tie.Start Inv-loop μ-loop = search in
+    let l : tie.At-loop Inv-loop μ-loop = search in
+    let e : l .loop .i ≡ s .args .n = omega arith in
+    sym (l .loop .inv .2) ∙ ap (λ n. someCell slotWidth (s .args .first) n allocatedUnsound (s .args .keys .now)) e
 
 pub allocated-unsound-spec : {M : Type 1} → statement M
 allocated-unsound-spec =
     tie.close
     (tie.spec
-    Inv-loop
-    μ-loop
-    loop-holds
-    add-slot-unsound
-    slot-unsound-requires
-    returns
-    add-i
-    loop-less
-    loop-again
-    returns-2)
+    Inv-loop μ-loop loop-holds (λ c. omega arith) slot-unsound-requires returns
+    (λ c. omega arith) (λ c. omega arith) loop-again returns-2)

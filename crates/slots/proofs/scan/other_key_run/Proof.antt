@@ -6,8 +6,8 @@ use mathlib.Core.Path.{_≡_, refl, sym, ap, _∙_}
 use mathlib.Core.Bool.{Bool, false}
 use mathlib.Core.List.{List}
 use Prim.Native.Nat.{ℕ, _+_, _-_, _≤_}
-use Rattle.cells.specs.Tests.{someCell}
-use Rattle.cells.proofs.TestsLaws.{some-start, some-next, some-hit}
+use Rattle.cells.specs.Predicates.{someCell}
+use Rattle.cells.proofs.PredicatesLaws.{some-start, some-next, some-hit}
 use Rattle.rules.specs.Numbers.{slotWidth, slotPlaces}
 use Rattle.slots.specs.Cache.{otherKeyBehind}
 use Rattle.slots.proofs.scan.other_key_run.Statement.{statement}
@@ -25,48 +25,40 @@ abbrev μ-loop : tie.MeasureT-loop
 loop-holds : tie.Need-loop-holds Inv-loop μ-loop
 loop-holds c = (search needs, search needs, some-start slotWidth _ _ _)
 
-add-other-key-at : tie.Need-add-other-key-at Inv-loop μ-loop
-add-other-key-at c = omega arith
-
 other-key-at-requires : tie.Need-other-key-at-requires Inv-loop μ-loop
 other-key-at-requires c κs = (search needs, omega arith, search needs)
 
 returns : tie.Need-returns Inv-loop μ-loop
 returns c =
-    let s = c .before .before .before .before .before .before .before .args in
-    let l = c .before .before .before .loop in
-    some-hit slotWidth (test (s .head .now) (s .key .now)) (s .first) (s .n) (s .first + l .i) (s .keys .now) (omega arith) (omega arith) (sym (c .before .other-key-at .ensures) ∙ c .if1 .taken)
-
-add-i : tie.Need-add-i Inv-loop μ-loop
-add-i c = omega arith
-
-loop-less : tie.Need-loop-less Inv-loop μ-loop
-loop-less c = omega arith
+    let s : tie.Start Inv-loop μ-loop = search in
+    let l : tie.At-loop Inv-loop μ-loop = search in
+    let a : tie.After-other-key-at Inv-loop μ-loop = search in
+    let h = s .args in
+    some-hit slotWidth (test (h .head .now) (h .key .now)) (h .first) (h .n) (h .first + l .loop .i) (h .keys .now) (omega arith) (omega arith)
+    (sym (a .other-key-at .ensures) ∙ c .if1 .taken)
 
 loop-again : tie.Need-loop-again Inv-loop μ-loop
 loop-again c =
-    let s = c .before .before .before .before .before .before .before .args in
-    let l = c .before .before .before .loop in
-    (omega arith, omega arith, some-next slotWidth (test (s .head .now) (s .key .now)) (s .first) (l .i) (s .first + l .i) (s .keys .now) refl (l .inv .2) (sym (c .before .other-key-at .ensures) ∙ c .if1 .left))
+    let s : tie.Start Inv-loop μ-loop = search in
+    let l : tie.At-loop Inv-loop μ-loop = search in
+    let a : tie.After-other-key-at Inv-loop μ-loop = search in
+    let h = s .args in
+    let none =
+    some-next slotWidth (test (h .head .now) (h .key .now)) (h .first) (l .loop .i) (h .first + l .loop .i) (h .keys .now) refl (l .loop .inv .2)
+    (sym (a .other-key-at .ensures) ∙ c .if1 .left) in
+    (omega arith, omega arith, none)
 
 returns-2 : tie.Need-returns-2 Inv-loop μ-loop
 returns-2 c =
-    let s = c .before .before .before .before .before .args in
-    let l = c .before .loop in
-    let e : l .i ≡ s .n = omega arith in
-    sym (l .inv .2) ∙ ap (λ n. someCell slotWidth (s .first) n (test (s .head .now) (s .key .now)) (s .keys .now)) e
+    let s : tie.Start Inv-loop μ-loop = search in
+    let l : tie.At-loop Inv-loop μ-loop = search in
+    let h = s .args in
+    let e : l .loop .i ≡ s .args .n = omega arith in
+    sym (l .loop .inv .2) ∙ ap (λ n. someCell slotWidth (h .first) n (test (h .head .now) (h .key .now)) (h .keys .now)) e
 
 pub other-key-run-spec : {M : Type 1} → statement M
 other-key-run-spec =
     tie.close
     (tie.spec
-    Inv-loop
-    μ-loop
-    loop-holds
-    add-other-key-at
-    other-key-at-requires
-    returns
-    add-i
-    loop-less
-    loop-again
-    returns-2)
+    Inv-loop μ-loop loop-holds (λ c. omega arith) other-key-at-requires returns
+    (λ c. omega arith) (λ c. omega arith) loop-again returns-2)

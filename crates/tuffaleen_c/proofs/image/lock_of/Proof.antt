@@ -9,10 +9,13 @@ returns : tie.Need-returns
 returns c = search needs
 
 returns-2 : tie.Need-returns-2
-returns-2 c = locked-of (c .before .before .args .b) (c .if1 .taken) (c .before .match .rest .1)
+returns-2 c =
+    let m : tie.At-match-rest = search in
+    let s : tie.Start = search in
+    locked-of (s .args .b) (c .if1 .taken) (m .match .rest .1)
 
 returns-3 : tie.Need-returns-3
-returns-3 c = held-of (c .before .before .args .b) (c .if1 .left)
+returns-3 c = let s : tie.Start = search in held-of (s .args .b) (c .if1 .left)
 
 pub lock-of-spec : {M : Type 1} → statement M
 lock-of-spec = tie.close (tie.spec returns returns-2 returns-3)

@@ -7,7 +7,7 @@ use Rattle.tuffaleen_c.proofs.image.no_image.Statement.{statement}
 use Rattle.tuffaleen_c.proofs.image.no_image.Tie as tie
 
 returns : tie.Need-returns
-returns c = sym (other-length (c .before .before .args .image .now) (c .if1 .taken))
+returns c = let s : tie.Start = search in sym (other-length (s .args .image .now) (c .if1 .taken))
 
 shared-slice-read-no-lock : tie.Need-shared-slice-read-no-lock
 shared-slice-read-no-lock c = search needs
@@ -26,14 +26,18 @@ no-lock-requires-2 c κs = search needs
 
 returns-2 : tie.Need-returns-2
 returns-2 c =
-    let e = c .before in
-    c .if2 .taken ∙ sym (first-lock (e .before .before .before .before .args .image .now) (e .before .before .if1 .left) (sym (e .no-lock .ensures) ∙ c .if2 .taken))
+    let x : tie.After-no-lock = search in
+    let e : tie.Else1 = search in
+    let s : tie.Start = search in
+    c .if2 .taken ∙ sym (first-lock (s .args .image .now) (e .if1 .left) (sym (x .no-lock .ensures) ∙ c .if2 .taken))
 
 returns-3 : tie.Need-returns-3
 returns-3 c =
-    let e = c .before .before in
-    c .no-lock2 .ensures
-    ∙ sym (second-lock (e .before .before .before .before .before .args .image .now) (e .before .before .before .if1 .left) (sym (e .before .no-lock .ensures) ∙ e .if2 .left))
+    let o : tie.Else2 = search in
+    let x : tie.After-no-lock = search in
+    let e : tie.Else1 = search in
+    let s : tie.Start = search in
+    c .no-lock2 .ensures ∙ sym (second-lock (s .args .image .now) (e .if1 .left) (sym (x .no-lock .ensures) ∙ o .if2 .left))
 
 pub no-image-spec : {M : Type 1} → statement M
 no-image-spec =

@@ -1,0 +1,28 @@
+-- `on_line` meets its contract: what was read stands for the line.
+-- Assumes nothing.
+use borrow.Author.Needs.{needs}
+use mathlib.Core.Path.{ap, _∙_}
+use Rattle.rules.specs.State.{State}
+use Rattle.frames.proofs.ReadingLaws.{means, lies}
+use Rattle.drive.specs.Acting.{state, acted}
+use Rattle.drive.proofs.ActingLaws.{line-acts}
+use Rattle.drive.proofs.act.on_line.Statement.{statement}
+use Rattle.drive.proofs.act.on_line.Tie as tie
+
+act-requires : tie.Need-act-requires
+act-requires c κs =
+    let s : tie.Start = search in
+    let r : tie.After-read = search in
+    (s .pre, lies (s .args .line .now) _ (r .read .result) _ (r .read .ensures))
+
+returns : tie.Need-returns
+returns c =
+    let s : tie.Start = search in
+    let r : tie.After-read = search in
+    let t : tie.After-act = search in
+    let a = s .args in
+    let now : State = state (a .registers) (a .keys .now) (a .marks .now) in
+    t .act .ensures ∙ ap (acted now) (means (a .line .now) _ (r .read .result) _ (r .read .ensures)) ∙ line-acts now (a .line .now)
+
+pub on-line-spec : {M : Type 1} → statement M
+on-line-spec = tie.close (tie.spec (λ c κs. search needs) act-requires (λ c. search needs) (λ c. search needs) returns)

@@ -1,0 +1,23 @@
+-- `on_ready` meets its contract: the line, its answer, and the frame wiped.
+-- Assumes nothing.
+use borrow.Author.Needs.{needs}
+use Rattle.rules.specs.State.{State}
+use Rattle.drive.specs.Acting.{state}
+use Rattle.drive.proofs.RunningLaws.{replied}
+use Rattle.drive.proofs.on_ready.Statement.{statement}
+use Rattle.drive.proofs.on_ready.Tie as tie
+
+returns : tie.Need-returns
+returns c =
+    let s : tie.Start = search in
+    let o : tie.After-on-line = search in
+    let w : tie.After-write-answer = search in
+    let a = s .args in
+    let now : State = state (a .registers) (a .keys .now) (a .marks .now) in
+    replied now (a .line .now) (a .out .now) _ _ (o .on-line .ensures) (s .pre .1) (w .write-answer .ensures)
+
+pub on-ready-spec : {M : Type 1} → statement M
+on-ready-spec =
+    tie.close
+    (tie.spec
+    (λ c κs. search needs) (λ c κs. search needs) (λ c κs. search needs) (λ c. search needs) (λ c. search needs) (λ c. search needs) returns)

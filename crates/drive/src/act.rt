@@ -1,0 +1,114 @@
+// One line, on a drive that was found ready: it is read, and its frame acts or its refusal is the answer.
+ghost use mathlib.Core.Path.{_≡_};
+ghost use mathlib.Core.List.{List};
+ghost use Prim.Native.Nat.{ℕ, _+_, _≤_};
+ghost use lib.ListN.{length};
+ghost use Rattle.cells.specs.Cells.{part, zeros};
+ghost use Rattle.rules.specs.Numbers.{keySize};
+ghost use Rattle.rules.specs.State.{obey};
+ghost use Rattle.rules.specs.Slots.{FitKey};
+ghost use Rattle.rules.specs.Frames.{contentsAt};
+ghost use Rattle.rules.specs.Order.{step, load as loadRule, replace as replaceRule};
+ghost use Rattle.frames.specs.Reading.{meant, Lies};
+ghost use Rattle.drive.specs.Acting.{state, outcome, Ready, Sound, acted};
+use crate::Answered;
+use crate::answers::refused;
+use crate::boot;
+use crate::io;
+use crate::keys;
+use frames::FrameRead;
+use rules::FRAME_MOST;
+use rules::KEY_SIZE;
+use rules::Namespace;
+use rules::Registers;
+use rules::Tag;
+
+// A load: its KeyUID lies from byte 5 on, the key behind it.
+fn load(
+    registers: Registers,
+    keys: &mut [u8],
+    f: &[u8],
+    ns: Namespace,
+    tag: Tag,
+    l: usize,
+) -> Answered
+    requires { ⌜ Sound registers (now keys) × (FitKey (contentsAt 5 l (now f)) × (5 + l + keySize ≤ length (now f))) ⌝ }
+    ensures { λ r. ⌜ ((marks : List ℕ) → outcome r (now (keys .exit)) marks
+        ≡ obey (state registers (now (keys .entry)) marks) (loadRule (state registers (now (keys .entry)) marks) ns tag (contentsAt 5 l (now (f .entry))))) ⌝ }
+{
+    let u = 5 + l;
+    let e = u + KEY_SIZE;
+    keys::load(registers, keys, ns, tag, &f[5..u], &f[u..e])
+}
+
+// A replace: the old KeyUID lies from byte 5 on, then a length byte, the new KeyUID and the key.
+fn replace(
+    registers: Registers,
+    keys: &mut [u8],
+    f: &[u8],
+    ns: Namespace,
+    tag: Tag,
+    o: usize,
+    l: usize,
+) -> Answered
+    requires { ⌜ Sound registers (now keys) × (FitKey (contentsAt (6 + o) l (now f)) × (6 + o + l + keySize ≤ length (now f))) ⌝ }
+    ensures { λ r. ⌜ ((marks : List ℕ) → outcome r (now (keys .exit)) marks
+        ≡ obey (state registers (now (keys .entry)) marks)
+        (replaceRule (state registers (now (keys .entry)) marks) ns tag (part 5 o (now (f .entry))) (contentsAt (6 + o) l (now (f .entry))))) ⌝ }
+{
+    let t = 5 + o;
+    let u = 6 + o;
+    let v = u + l;
+    let e = v + KEY_SIZE;
+    keys::replace(registers, keys, ns, tag, &f[5..t], &f[u..v], &f[v..e])
+}
+
+// A frame that was read from these bytes, or the refusal of its line.
+fn act(
+    registers: Registers,
+    keys: &mut [u8],
+    marks: &mut [u8],
+    f: &[u8],
+    read: FrameRead,
+) -> Answered
+    requires { ⌜ Ready registers (now keys) (now marks) × Lies (now f) read ⌝ }
+    ensures { λ r. ⌜ outcome r (now (keys .exit)) (now (marks .exit))
+        ≡ acted (state registers (now (keys .entry)) (now (marks .entry))) (meant (now (f .entry)) read) ⌝ }
+{
+    match read {
+        FrameRead::Manage(ns, tags) => keys::manage(registers, ns, tags),
+        FrameRead::Release(ns) => keys::release(registers, keys, marks, ns),
+        FrameRead::Load(ns, tag, l) => load(registers, keys, f, ns, tag, l),
+        FrameRead::Replace(ns, tag, o, l) => replace(registers, keys, f, ns, tag, o, l),
+        FrameRead::ClearOne(ns, tag) => keys::clear_one(registers, keys, ns, tag),
+        FrameRead::ClearAll(ns) => keys::clear_all(registers, keys, ns),
+        FrameRead::Io(c) => io::command(registers, keys, marks, c),
+        FrameRead::SetFeatures(dword11) => boot::set_features(registers, dword11),
+        FrameRead::GetFeatures => boot::get_features(registers),
+        FrameRead::BootWrite(partition) => boot::boot_write(registers, partition),
+        FrameRead::Reset(level) => boot::reset(registers, keys, level),
+        FrameRead::Refused(r) => refused(registers, r),
+    }
+}
+
+// A line. Its bytes go to the front of the frame that is lent, and stay there.
+pub(crate) fn on_line(
+    registers: Registers,
+    keys: &mut [u8],
+    marks: &mut [u8],
+    line: &[u8],
+    frame: &mut [u8; FRAME_MOST],
+) -> Answered
+    requires { ⌜ Ready registers (now keys) (now marks) ⌝ }
+    ensures { λ r. ⌜ outcome r (now (keys .exit)) (now (marks .exit)) ≡ step (state registers (now (keys .entry)) (now (marks .entry))) (now (line .entry)) ⌝ }
+{
+    let read = frames::read(line, frame);
+    act(registers, keys, marks, frame, read)
+}
+
+// A frame's bytes become zero: they may hold a key.
+pub(crate) fn wipe(frame: &mut [u8; FRAME_MOST])
+    ensures { λ _. ⌜ now (frame .exit) ≡ zeros (length (now (frame .entry))) ⌝ }
+{
+    cells::fill_zero(frame);
+}

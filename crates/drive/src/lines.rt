@@ -1,0 +1,95 @@
+// The lines of a text, one after another, and the output that their answers may need.
+ghost use mathlib.Core.Path.{_≡_};
+ghost use mathlib.Core.Bool.{true};
+ghost use Prim.Native.Nat.{_+_, _≤_, _<_};
+ghost use lib.Dec.{ltb};
+ghost use lib.ListN.{length};
+ghost use Rattle.rules.specs.Call.{roomFor};
+ghost use Rattle.rules.specs.Sessions.{linesOf, roomForAll};
+ghost use Rattle.drive.specs.Lines.{stride, NoFeed, LineAt};
+use rules::ANSWER_MOST;
+
+const LINE_FEED: u8 = 10;
+
+// A line of a text: where it ends, and where the next one starts.
+pub(crate) struct Line {
+    pub end: usize,
+    pub next: usize,
+}
+
+// As many bytes as are looked through for a line feed at once.
+const STRIDE_BYTES: usize = 32;
+
+// Whether the stride at `at` has no line feed. It does not stop at one, so that the compiler can take all bytes at once.
+fn clean_stride(text: &[u8], at: usize) -> bool
+    requires { ⌜ at + stride ≤ length (now text) ⌝ }
+    ensures { λ r. ⌜ (r ≡ true → NoFeed (now (text .entry)) at (at + stride)) ⌝ }
+{
+    let mut clean = true;
+    let mut k = 0;
+    while k < STRIDE_BYTES {
+        let i = at + k;
+        clean = clean & (text[i] != LINE_FEED);
+        k += 1;
+    }
+    clean
+}
+
+// Past the clean strides from `at` on.
+fn skip_strides(text: &[u8], at: usize) -> usize
+    requires { ⌜ at ≤ length (now text) ⌝ }
+    ensures { λ r. ⌜ (at ≤ r) × (r ≤ length (now (text .entry))) × NoFeed (now (text .entry)) at r ⌝ }
+{
+    let mut i = at;
+    while text.len() - i >= STRIDE_BYTES {
+        if !clean_stride(text, i) {
+            return i;
+        }
+        i += STRIDE_BYTES;
+    }
+    i
+}
+
+// The line that starts at `at`. A last line without a line feed counts.
+pub(crate) fn next_line(text: &[u8], at: usize) -> Line
+    requires { ⌜ at < length (now text) ⌝ }
+    ensures { λ r. ⌜ LineAt (now (text .entry)) at (r .end) (r .next) ⌝ }
+{
+    let mut i = skip_strides(text, at);
+    while i < text.len() {
+        if text[i] == LINE_FEED {
+            return Line {
+                end: i,
+                next: i + 1,
+            };
+        }
+        i += 1;
+    }
+    Line { end: i, next: i }
+}
+
+// The output bytes that a line's answer may need.
+pub(crate) fn room_for(line: &[u8]) -> usize
+    ensures { λ r. ⌜ r ≡ roomFor (now (line .entry)) ⌝ }
+{
+    ANSWER_MOST
+}
+
+// Whether the lines of a text may need more output than this. No sum is made, so that none can wrap.
+pub(crate) fn need_more_than(text: &[u8], room: usize) -> bool
+    ensures { λ r. ⌜ r ≡ ltb room (roomForAll (linesOf (now (text .entry)))) ⌝ }
+{
+    let mut left = room;
+    let mut at = 0;
+    while at < text.len() {
+        let line = next_line(text, at);
+        let end = line.end;
+        let need = room_for(&text[at..end]);
+        if need > left {
+            return true;
+        }
+        left -= need;
+        at = line.next;
+    }
+    false
+}

@@ -1,0 +1,4 @@
+pub mod FieldsLaws
+pub mod KindsLaws
+pub mod LineLaws
+pub mod ReadingLaws

@@ -1,0 +1,55 @@
+// A line read as a frame: its numbers by value, and where in the frame's bytes KeyUIDs and keys lie; or the refusal. Nothing here looks at a
+// state. Every public function is total.
+ghost use mathlib.Core.Path.{_≡_};
+ghost use Rattle.frames.specs.Reading.{readFrom, bytesRead};
+
+mod fields;
+mod kinds;
+
+use rules::Command;
+use rules::FRAME_MOST;
+use rules::LineRead;
+use rules::Namespace;
+use rules::Refusal;
+use rules::Tag;
+
+// A frame as it was read. A load's KeyUID lies from byte 5 on and has so many bytes; its key lies behind it. A replace's old KeyUID lies
+// from byte 5 on, the new one behind it and a length byte, the key behind that. specs/Reading.antt says what each stands for.
+pub enum FrameRead {
+    Manage(Namespace, u8),
+    Release(Namespace),
+    Load(Namespace, Tag, usize),
+    Replace(Namespace, Tag, usize, usize),
+    ClearOne(Namespace, Tag),
+    ClearAll(Namespace),
+    Io(Command),
+    SetFeatures(u32),
+    GetFeatures,
+    BootWrite(u8),
+    Reset(u8),
+    Refused(Refusal),
+}
+
+// How many bytes were read; 0 for what is no frame line, which has at least one.
+fn bytes_read(read: LineRead) -> usize
+    ensures { λ r. ⌜ r ≡ bytesRead read ⌝ }
+{
+    match read {
+        LineRead::Bytes(n) => n,
+        LineRead::Empty => 0,
+        LineRead::TooLong => 0,
+        LineRead::BadDigit(_) => 0,
+        LineRead::Odd => 0,
+    }
+}
+
+// Reads a line into the front of the frame, 07 01 first, then by its kind.
+pub fn read(line: &[u8], frame: &mut [u8; FRAME_MOST]) -> FrameRead
+    ensures { λ r. ⌜ record { read = r; frame = now (frame .exit) } ≡ readFrom (now (line .entry)) (now (frame .entry)) ⌝ }
+{
+    let n = bytes_read(digits::read_line(line, frame));
+    if n == 0 {
+        return FrameRead::Refused(Refusal::NotAFrameLine);
+    }
+    kinds::front(frame, n)
+}

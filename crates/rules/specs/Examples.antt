@@ -1,0 +1,110 @@
+-- "Bench examples": P1 to P10 and the paper's session as one table, lines and
+-- answers in the paper's own digits. Each row starts from a fresh drive and
+-- each line is a whole call with room for one answer.
+-- Assumes nothing.
+use mathlib.Core.Path.{_≡_}
+use mathlib.Core.Bool.{Bool, true, _&&_}
+use mathlib.Core.List.{List, [], _∷_}
+use Prim.Native.Nat.{ℕ, _*_}
+use Prim.Native.Char.{code}
+use Prim.Native.String.{String, _++_, [] as end, _∷_ as _then_}
+use lib.ListN.{take}
+use lib.Dec.{eqb}
+use Rattle.cells.specs.Cells.{zeros}
+use Rattle.cells.specs.Predicates.{same}
+use Rattle.rules.specs.declared.Lock.{Lock}
+use Rattle.rules.specs.declared.Lock.the-variants.{WriteUnlocked, WriteLockedUntilPowerCycle}
+use Rattle.rules.specs.Numbers.{answerMost}
+use Rattle.rules.specs.State.{State}
+use Rattle.rules.specs.Locks.{sameLock}
+use Rattle.rules.specs.Start.{fresh}
+use Rattle.rules.specs.Call.{call}
+use Rattle.rules.specs.Sessions.{session}
+
+-- ------------------------------------------------------------------------
+-- A row: lines with their answers, and states of the two boot partitions in between
+
+infix 68 _answers_
+pub data Entry : Type 0 where
+  _answers_ : String → String → Entry
+  partitions : Lock → Lock → Entry
+
+unfoldable pub codes : String → List ℕ
+codes end = []
+codes (c then text) = code c ∷ codes text
+
+infixr 69 _⁀_
+abbrev pub _⁀_ : String → String → String
+s ⁀ t = s ++ t
+
+unfoldable pub right : State → List Entry → Bool
+right s [] = true
+right s ((line answers answer) ∷ row) =
+    let left = call s (codes line) (zeros answerMost) in
+    same (take (left .bytes) (left .out)) (codes (answer ⁀ "\n")) && right (left .state) row
+right s (partitions a b ∷ row) = sameLock (s .registers .locks .partition0) a && sameLock (s .registers .locks .partition1) b && right s row
+
+unfoldable pub allRight : List (List Entry) → Bool
+allRight [] = true
+allRight (row ∷ rows) = right fresh row && allRight rows
+
+-- ------------------------------------------------------------------------
+-- The paper's digits
+
+-- 64 digits 1, and 64 digits 2: two keys
+abbrev pub K : String
+K = "1111111111111111111111111111111111111111111111111111111111111111"
+
+abbrev pub L : String
+L = "2222222222222222222222222222222222222222222222222222222222222222"
+
+-- an I/O line: opcode, namespace, first block, count field, tag; CETYPE 1, all else zero
+abbrev pub command : String → String → String → String → String → String
+command opcode ns first more tag =
+    "07" ⁀ opcode ⁀ "000000" ⁀ ns ⁀ "0000000000000000000000000000000000000000000000000000000000000000" ⁀ first ⁀ more ⁀ "0100" ⁀ tag ⁀ "00000000000000000000"
+
+unfoldable pub table : List (List Entry)
+table =
+    -- P1: tag count 32 accepted, 33 refused
+    ("010120" answers "0000" ∷ [])
+    ∷ ("010121" answers "0707" ∷ [])
+    -- P2: 32 and 32 managed, a third 1 gets 07 08; release one, it is accepted
+    ∷ ("010120" answers "0000" ∷ "010220" answers "0000" ∷ "010301" answers "0708" ∷ "0201" answers "0000" ∷ "010301" answers "0000" ∷ [])
+    -- P3: block 255, count field 0 passes; count field 1 gets 00 80
+    ∷ (command "02" "01000000" "FF00000000000000" "0000" "0000" answers "0000"
+    ∷ command "02" "01000000" "FF00000000000000" "0100" "0000" answers "0080" ∷ [])
+    -- P4: first block 2^64 - 1: 00 80
+    ∷ (command "02" "01000000" "FFFFFFFFFFFFFFFF" "0000" "0000" answers "0080" ∷ [])
+    -- P5: tag n - 1 loaded passes, tag n gets 00 25
+    ∷ ("010103" answers "0000" ∷ "0301020001AA" ⁀ K answers "0000"
+    ∷ command "02" "01000000" "0000000000000000" "0000" "0200" answers "0000"
+    ∷ command "02" "01000000" "0000000000000000" "0000" "0300" answers "0025" ∷ [])
+    -- P6: one KeyUID and key in two slots: accepted; other key bytes: 07 0C
+    ∷ ("010103" answers "0000" ∷ "0301000001AA" ⁀ K answers "0000" ∷ "0301010001AA" ⁀ K answers "0000" ∷ "0301020001AA" ⁀ L answers "070C" ∷ [])
+    -- P7: replace with its own KeyUID and other key: 07 0C
+    ∷ ("010101" answers "0000" ∷ "0301000001AA" ⁀ K answers "0000" ∷ "0401000001AA01AA" ⁀ L answers "070C" ∷ [])
+    -- P8: write, power cycle, load a KeyUID of another kept identity, read: 00 28
+    ∷ ("010101" answers "0000" ∷ "0301000001AA" ⁀ K answers "0000"
+    ∷ command "01" "01000000" "0700000000000000" "0100" "0000" answers "0000"
+    ∷ "0B01" answers "0000" ∷ "0301000001BB" ⁀ L answers "0000"
+    ∷ command "02" "01000000" "0700000000000000" "0000" "0000" answers "0028" ∷ [])
+    -- P9: Dword 11 = 0B hex: partition 0 Until Power Cycle, partition 1 Write Unlocked; then 09 hex gets 01 0E and both stay
+    ∷ ("080B000000" answers "0000" ∷ partitions WriteLockedUntilPowerCycle WriteUnlocked
+    ∷ "0809000000" answers "010E" ∷ partitions WriteLockedUntilPowerCycle WriteUnlocked ∷ [])
+    -- P10: KeyUID length 16 accepted, 17 gets 07 04
+    ∷ ("010101" answers "0000" ∷ "0301000011AAAAAAAAAAAAAAAAAAAAAAAAAAAAAAAAAA" ⁀ K answers "0704"
+    ∷ "0301000010AAAAAAAAAAAAAAAAAAAAAAAAAAAAAAAA" ⁀ K answers "0000" ∷ [])
+    -- the session that the paper gives whole
+    ∷ ("010102" answers "0000" ∷ "0301000001AA" ⁀ K answers "0000" ∷ "05010100" answers "070A"
+    ∷ "09" answers "000012000000" ∷ "0B01" answers "0000" ∷ "05010000" answers "070A" ∷ [])
+    ∷ []
+
+-- the same as one session, with room for just its six lines
+unfoldable pub sessionRight : Bool
+sessionRight =
+    let left = session fresh (codes ("010102\n0301000001AA" ⁀ K ⁀ "\n05010100\n09\n0B01\n05010000\n")) (zeros (6 * answerMost)) in
+    same (take (left .bytes) (left .out)) (codes "0000\n0000\n070A\n000012000000\n0000\n070A\n") && eqb (left .lines) 6
+
+-- Every line of every row is answered as the table says, and the session too.
+abbrev pub ExamplesRight : Type 0
+ExamplesRight = (allRight table ≡ true) × (sessionRight ≡ true)
