@@ -1,14 +1,19 @@
 /*
  * Tuffaleen: the drive's key cache, its key check and its boot partition locks, for firmware in C or C++.
  *
- * The functions are proved to answer as the paper (01-scope.md) says, for every image, store, line and output
+ * The functions are proved to answer as docs/RULES.md says, for every image, store, line and output
  * that fits the rules under "What the caller promises". Make the library and link it, on x86-64:
  *
  *     rt staticlib tuffaleen_c
  *     gcc -Iinclude firmware.c target/staticlib/libtuffaleen_c.a
  *
  * It needs memcpy and memset and nothing else of a C library: no heap, no input or output, no threads. A call takes
- * some 7 KB of stack, where it works on a copy of the key slots; the stack is not wiped afterwards.
+ * less than 1 KB of stack.
+ *
+ * Keys are worked on where they lie, in the image, and are not copied. A line that brings a key is decoded into 70 bytes
+ * on the stack, which are zeroed before the call returns. A compiler may drop such stores; in the object code that rt
+ * makes (its clang 22, -O3, x86-64) they are there, at the end of drive::act::on_line. What processor registers and the
+ * text that you handed over still hold, the library does not wipe.
  *
  * The library keeps nothing between calls. All it knows lies in two buffers of yours:
  *

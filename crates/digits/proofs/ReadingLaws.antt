@@ -104,7 +104,7 @@ all-end line i false h = refl
 -- ------------------------------------------------------------------------
 -- Pairs of digits
 
-length-decoded : (line : List ℕ) → length (decoded line) ≡ length line / 2
+pub length-decoded : (line : List ℕ) → length (decoded line) ≡ length line / 2
 unfolding decoded
 length-decoded [] = refl
 length-decoded (a ∷ []) = refl

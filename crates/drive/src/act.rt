@@ -1,9 +1,11 @@
 // One line, on a drive that was found ready: it is read, and its frame acts or its refusal is the answer.
 ghost use mathlib.Core.Path.{_≡_};
+ghost use mathlib.Core.Bool.{true};
 ghost use mathlib.Core.List.{List};
 ghost use Prim.Native.Nat.{ℕ, _+_, _≤_};
 ghost use lib.ListN.{length};
-ghost use Rattle.cells.specs.Cells.{part, zeros};
+ghost use Rattle.cells.specs.Cells.{part};
+ghost use Rattle.cells.specs.Predicates.{allZero};
 ghost use Rattle.rules.specs.Numbers.{keySize};
 ghost use Rattle.rules.specs.State.{obey};
 ghost use Rattle.rules.specs.Slots.{FitKey};
@@ -91,7 +93,8 @@ fn act(
     }
 }
 
-// A line. Its bytes go to the front of the frame that is lent, and stay there.
+// A line. Its bytes go to the front of the frame that is lent, and are wiped there: they may hold a key. (Here, behind a reference, the
+// stores stay; in the function that has the frame the compiler drops them.)
 pub(crate) fn on_line(
     registers: Registers,
     keys: &mut [u8],
@@ -100,15 +103,11 @@ pub(crate) fn on_line(
     frame: &mut [u8; FRAME_MOST],
 ) -> Answered
     requires { ⌜ Ready registers (now keys) (now marks) ⌝ }
-    ensures { λ r. ⌜ outcome r (now (keys .exit)) (now (marks .exit)) ≡ step (state registers (now (keys .entry)) (now (marks .entry))) (now (line .entry)) ⌝ }
+    ensures { λ r. ⌜ (outcome r (now (keys .exit)) (now (marks .exit)) ≡ step (state registers (now (keys .entry)) (now (marks .entry))) (now (line .entry)))
+        × (allZero (now (frame .exit)) ≡ true) ⌝ }
 {
     let read = frames::read(line, frame);
-    act(registers, keys, marks, frame, read)
-}
-
-// A frame's bytes become zero: they may hold a key.
-pub(crate) fn wipe(frame: &mut [u8; FRAME_MOST])
-    ensures { λ _. ⌜ now (frame .exit) ≡ zeros (length (now (frame .entry))) ⌝ }
-{
+    let told = act(registers, keys, marks, frame, read);
     cells::fill_zero(frame);
+    told
 }

@@ -90,7 +90,7 @@ pub fn start(keys: &mut [u8], marks: &mut [u8]) -> Answered
     answers::done(registers)
 }
 
-// A line on a drive that was found ready, with room for its answer. Its frame is wiped before anything is handed back.
+// A line on a drive that was found ready, with room for its answer.
 fn on_ready(
     registers: Registers,
     keys: &mut [u8],
@@ -104,7 +104,6 @@ fn on_ready(
 {
     let mut frame = [0u8; FRAME_MOST];
     let told = act::on_line(registers, keys, marks, line, &mut frame);
-    act::wipe(&mut frame);
     let answer = told.answer;
     let registers = told.registers;
     let bytes = digits::write_answer(answer, out);

@@ -6,14 +6,12 @@ ghost use Rattle.rules.specs.Sessions.{linesOf, roomForAll, allAnswered};
 ghost use Rattle.drive.specs.Acting.{state, Ready};
 use crate::SessionReply;
 use crate::act::on_line;
-use crate::act::wipe;
 use crate::lines::next_line;
 use rules::Answer;
 use rules::FRAME_MOST;
 use rules::Registers;
 
-// Answers each line; each answer goes to the part of the output that starts where the last one ended. One frame serves all lines, and is
-// wiped at the end.
+// Answers each line; each answer goes to the part of the output that starts where the last one ended. One frame serves all lines.
 pub(crate) fn run(
     registers: Registers,
     keys: &mut [u8],
@@ -46,7 +44,6 @@ pub(crate) fn run(
         at = line.next;
         lines += 1;
     }
-    wipe(&mut frame);
     SessionReply {
         result: Answer::Done,
         registers,

@@ -1,24 +1,15 @@
--- A part in two parts; a little-endian number in two parts, the low bytes and
--- the high bytes above them; and one byte.
+-- A little-endian number in two parts, the low bytes and the high bytes above
+-- them; and one byte.
 -- Assumes nothing.
 use mathlib.Core.Path.{_≡_, ap, _∙_}
 use mathlib.Core.List.{List, [], _∷_, _++_}
 use Prim.Native.Nat.{ℕ, _+_, _*_, _^_, _≤_, _<_}
 use native.Mathlib.Nat.{pow-succ', mul-assoc}
 use native.Mathlib.Omega.{arith}
-use lib.ListN.{length, getD, take, drop}
-use lib.Seq.{take-add, drop-drop, drop-cons}
+use lib.ListN.{length, getD}
 use Rattle.cells.specs.Cells.{part}
-use Rattle.cells.proofs.CellsLaws.{length-part}
+use Rattle.cells.proofs.CellsLaws.{part-join, part-byte, length-part}
 use Rattle.rules.specs.Fields.{little}
-
-part-join : (a m n : ℕ) (f : List ℕ) → part a (m + n) f ≡ part a m f ++ part (a + m) n f
-unfolding part
-part-join a m n f = take-add m n (drop a f) ∙ ap (λ k. take m (drop a f) ++ take n k) (drop-drop m a f)
-
-part-byte : (a : ℕ) (f : List ℕ) → a < length f → part a 1 f ≡ getD f a 0 ∷ []
-unfolding part
-part-byte a f h = rw (drop-cons f a 0 h)
 
 little-append : (xs ys : List ℕ) → little (xs ++ ys) ≡ little xs + 256 ^ length xs * little ys
 unfolding little

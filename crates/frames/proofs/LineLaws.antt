@@ -21,16 +21,10 @@ use Rattle.rules.specs.Frames.{readFrame}
 use Rattle.rules.proofs.ChecksLaws.{judged-pass}
 use Rattle.digits.specs.Decoding.{allDigits}
 use Rattle.digits.specs.Digits.{ReadInto, readInto}
-use Rattle.digits.proofs.ReadingLaws.{some-bad}
+use Rattle.digits.proofs.ReadingLaws.{some-bad, length-decoded}
 use Rattle.frames.specs.declared.FrameRead.{FrameRead}
 use Rattle.frames.specs.declared.FrameRead.the-variants.{Refused}
 use Rattle.frames.specs.Reading.{numbered, readFrom, bytesRead}
-
-length-decoded : (line : List ℕ) → length (decoded line) ≡ length line / 2
-unfolding decoded
-length-decoded [] = refl
-length-decoded (a ∷ []) = refl
-length-decoded (a ∷ b ∷ line) = omega (arith, length-decoded line)
 
 -- ------------------------------------------------------------------------
 -- A frame line: all of it is digits, and its bytes go to the front

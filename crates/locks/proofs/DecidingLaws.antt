@@ -3,24 +3,19 @@
 -- Assumes nothing.
 use mathlib.Core.Path.{_≡_, refl}
 use mathlib.Core.Bool.{true, false, not, _||_}
-use Prim.Native.Nat.{ℕ, zero, suc, _<_, _≤_, _/_, _^_}
+use Prim.Native.Nat.{ℕ, zero, suc, _<_, _/_, _^_}
 use native.Mathlib.Omega.{arith}
 use lib.Bits.{bitAnd, and-mask}
 use lib.Dec.{eqb, ltb}
 use borrow.Author.Tests.{ne-eqb}
 use Rattle.rules.specs.declared.Lock.{Lock}
-use Rattle.rules.specs.declared.Lock.the-variants.{WriteUnlocked, WriteLocked, WriteLockedUntilPowerCycle}
+use Rattle.rules.specs.declared.Lock.the-variants.{WriteLockedUntilPowerCycle}
 use Rattle.rules.specs.declared.BootLocks.{BootLocks}
 use Rattle.rules.specs.declared.Answer.the-variants.{Done, Refused}
 use Rattle.rules.specs.Answers.{00·02, 01·0E}
 use Rattle.rules.specs.Fields.{bits}
-use Rattle.rules.specs.Locks.{lockValue, field0, field1, invalidFields, asked, asksHeld, notChangeable, changed}
+use Rattle.rules.specs.Locks.{field0, field1, invalidFields, asked, asksHeld, notChangeable, changed}
 use Rattle.locks.specs.Deciding.{decided}
-
-pub value-small : (lock : Lock) → lockValue lock ≤ 3
-value-small WriteUnlocked = omega arith
-value-small WriteLocked = omega arith
-value-small WriteLockedUntilPowerCycle = omega arith
 
 -- ------------------------------------------------------------------------
 -- Masks and shifts

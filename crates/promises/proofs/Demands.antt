@@ -5,27 +5,24 @@ use mathlib.Core.Path.{_≡_, refl, sym, ap, _∙_}
 use mathlib.Core.List.{List, [], _∷_, _++_}
 use mathlib.Core.Logic.{⊎-elim}
 use Prim.Native.Nat.{ℕ}
-use lib.ListN.{length, take}
+use lib.ListN.{take}
 use lib.Seq.{take-at}
-use Rattle.rules.specs.declared.Refusal.{Refusal}
 use Rattle.rules.specs.declared.Answer.{Answer}
 use Rattle.rules.specs.declared.Answer.the-variants.{Done, Refused}
-use Rattle.rules.specs.Checks.{Check, _when_, AllPass}
-use Rattle.rules.specs.Answers.{07·0D, 07·0E}
-use Rattle.rules.specs.State.{State, Outcome, wrongCache, wrongStore}
+use Rattle.rules.specs.Checks.{AllPass}
+use Rattle.rules.specs.State.{State, Outcome}
 use Rattle.rules.specs.Order.{step}
-use Rattle.rules.specs.Start.{fresh, freshWith, emptiedCache, start}
+use Rattle.rules.specs.Start.{fresh, startChecks}
 use Rattle.rules.specs.Call.{Called, unanswered, answered}
 use Rattle.rules.specs.Sessions.{Session, linesOf, endState, answersTo, answerLines, allAnswered, session}
 use Rattle.rules.specs.History.{Event, told}
-use Rattle.rules.specs.Promises.{FromFresh, one-more, Steps, sessionChecks}
-use Rattle.rules.specs.Promises as promises
-use Rattle.rules.proofs.ChecksLaws.{by-verdict, judged-cases}
+use Rattle.rules.specs.Promises.{FromFresh, begin, one-more, Steps, sessionChecks}
+use Rattle.rules.proofs.ChecksLaws.{by-verdict}
 use Rattle.rules.proofs.StateLaws.{accepted-not}
 use Rattle.rules.proofs.AnswersLaws.{lines-then, sayable-answers, split-answers}
-use Rattle.rules.proofs.CallLaws.{call-unread, call-read, session-ran, session-unread}
+use Rattle.rules.proofs.CallLaws.{call-unread, call-read, session-ran}
 use Rattle.rules.proofs.Promised as rules
-use Rattle.promises.specs.Leaves.{CallLeaves, SessionLeaves}
+use Rattle.promises.specs.Leaves.{StartLeaves, SessionLeaves}
 use Rattle.promises.specs.Demands.{Shows, SinceStart, started, unread, no-session, Answers, by-call, in-session, Demands}
 use Rattle.promises.specs.Demands as since
 use Rattle.promises.proofs.LeavesLaws.{start-is, call-is, session-is}
@@ -33,18 +30,12 @@ use Rattle.promises.proofs.LeavesLaws.{start-is, call-is, session-is}
 -- ------------------------------------------------------------------------
 -- A start that is not refused is a fresh drive
 
-startChecks : List ℕ → List ℕ → List (Check Refusal)
-startChecks keys store = 07·0D when wrongStore store ∷ 07·0E when wrongCache keys ∷ []
-
-starts-fresh : (keys store : List ℕ) → start keys store .answer ≡ Done → start keys store .state ≡ fresh
-unfolding start startChecks
-starts-fresh keys store e =
+fresh-start : (keys store : List ℕ) (o : Outcome) → StartLeaves keys store o → o .answer ≡ Done → o .state ≡ fresh
+fresh-start keys store o l e =
     ⊎-elim
-    (λ f. absurd (accepted-not Done (f .0) refl (sym e ∙ ap (λ (o : Outcome). o .answer) (f .1))))
-    (λ p. ap (λ (o : Outcome). o .state) (p .1))
-    (judged-cases (startChecks keys store)
-    (λ r. record { answer = Refused r; state = freshWith (emptiedCache keys) store })
-    (record { answer = Done; state = fresh }))
+    (λ f. absurd (accepted-not Done (f .0) refl (sym e ∙ rules.start-refused-when keys store o (start-is keys store o l) (f .0) .1 (f .1 .0))))
+    (λ p. ap (λ (x : Outcome). x .state) (rules.starts-fresh keys store o (start-is keys store o l) (p .0)))
+    (by-verdict (startChecks keys store) Refused Done)
 
 -- ------------------------------------------------------------------------
 -- A session that ran: the answers that its output shows are those to its lines
@@ -81,10 +72,7 @@ module _ (s : State) (text out : List ℕ) (o : Session) (l : SessionLeaves s te
 
 from-fresh : (h : List Event) (s : State) → SinceStart h s → FromFresh h s
 unfolding unanswered answered
-from-fresh h s (started keys store o l e) =
-    let i = start-is keys store o l in
-    let z : o .state ≡ fresh = ap (λ (x : Outcome). x .state) i ∙ starts-fresh keys store (sym (ap (λ (x : Outcome). x .answer) i) ∙ e) in
-    rw z promises.start
+from-fresh h s (started keys store o l e) = rw (fresh-start keys store o l e) begin
 from-fresh h s (since.answered h′ s′ led line out o l p) = rw (call-is s′ line out o l ∙ call-read s′ line out p) (one-more h′ s′ (from-fresh h′ s′ led) line)
 from-fresh h s (unread h′ s′ led line out o l r f) = rw (call-is s′ line out o l ∙ call-unread s′ line out r f) (from-fresh h′ s′ led)
 from-fresh h s (since.session h′ s′ led text out o l answers shows) =
@@ -106,6 +94,9 @@ steps h s line answer (in-session h′ s′ led text out o l before after line�
 
 pub demands : Demands
 demands = record {
+  start-refused-when = λ keys store o l. rules.start-refused-when keys store o (start-is keys store o l);
+  start-refused-keeps = λ keys store o l. rules.start-refused-keeps keys store o (start-is keys store o l);
+  starts-fresh = λ keys store o l. rules.starts-fresh keys store o (start-is keys store o l);
   refused-when = λ s line out o l. rules.refused-when s line out o (call-is s line out o l);
   done-when = λ s line out o l. rules.done-when s line out o (call-is s line out o l);
   refused-keeps = λ s line out o l. rules.refused-keeps s line out o (call-is s line out o l);

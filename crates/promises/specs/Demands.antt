@@ -16,6 +16,7 @@ use Rattle.rules.specs.State.{State, Outcome}
 use Rattle.rules.specs.Call.{Called, callChecks, roomFor}
 use Rattle.rules.specs.Sessions.{Session, linesOf, endState, answerLines}
 use Rattle.rules.specs.History.{Event, told}
+use Rattle.rules.specs.Promises.{StartRefusedWhen, StartRefusedKeeps, StartsFresh}
 use Rattle.rules.specs.Promises.{RefusedWhen, DoneWhen, RefusedKeeps, Writes, SessionRefusedWhen, SessionRefusedKeeps, SessionAnswers}
 use Rattle.rules.specs.Promises.{SlotAsTold, OneKeyForAKeyUid, CountAsTold, NeverUnsound, SameIdentityOrNever, LoadFindsNothing, PoolTooSmallWhen}
 use Rattle.promises.specs.Leaves.{StartLeaves, CallLeaves, SessionLeaves}
@@ -59,6 +60,10 @@ pub data Answers : List Event → State → List ℕ → Answer → Type 0 where
 -- ------------------------------------------------------------------------
 
 pub record Demands : Type 0 where
+  -- a start, on any cache and any store
+  pub start-refused-when : StartRefusedWhen StartLeaves
+  pub start-refused-keeps : StartRefusedKeeps StartLeaves
+  pub starts-fresh : StartsFresh StartLeaves
   -- demands 1 and 2, on any state, line, text and output
   pub refused-when : RefusedWhen CallLeaves
   pub done-when : DoneWhen CallLeaves

@@ -109,8 +109,8 @@ named-back OutputTooShort = refl
 same-refusal : (q r : Refusal) → refusalNumber q ≡ refusalNumber r → q ≡ r
 same-refusal q r e = cc (named-back q, named-back r)
 
--- 0 is read back as the table's last, whose number is not 0
-some-number : (r : Refusal) → 0 ≡ refusalNumber r → ⊥
+-- no refusal has the number 0: it is read back as the table's last, whose number is another
+pub some-number : (r : Refusal) → 0 ≡ refusalNumber r → ⊥
 unfolding refusalOf named
 some-number r e =
     let last : OutputTooShort ≡ r = ap refusalOf e ∙ named-back r in

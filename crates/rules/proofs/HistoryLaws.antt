@@ -29,7 +29,7 @@ use Rattle.rules.specs.Order as order
 use Rattle.rules.specs.Order.{frameRule, frameOf, isWrite, keyChecks, step}
 use Rattle.rules.specs.Start.{freshRegisters, fresh}
 use Rattle.rules.specs.History.{Event, touches, leaves, holds, covers, writtenAfter, lastWritten, countAfter, tagCount}
-use Rattle.rules.specs.Promises.{FromFresh, start, one-more}
+use Rattle.rules.specs.Promises.{FromFresh, begin, one-more}
 use Rattle.rules.proofs.StateLaws.{same-namespace, unmanaged}
 use Rattle.rules.proofs.FramesLaws.{Fit}
 use Rattle.rules.proofs.SlotsLaws.{bytesOf, FitHeld, held-bytes, uid-stored, key-stored, same-key, no-other-key}
@@ -314,5 +314,5 @@ kept-step s h line k =
     (refused-or-taken s line)
 
 pub kept : (h : List Event) (s : State) → FromFresh h s → Kept s h
-kept h s start = kept-fresh
+kept h s begin = kept-fresh
 kept h s (one-more h′ s′ led line) = kept-step s′ h′ line (kept h′ s′ led)

@@ -8,33 +8,33 @@ use mathlib.Core.Logic.{_↔_, _⊎_, inl, inr, ⊎-elim}
 use Prim.Native.Nat.{ℕ, _+_, _≤_, _<_}
 use native.Mathlib.Omega.{arith}
 use lib.ListN.{getD}
-use lib.Dec.{leb}
-use borrow.Author.Tests.{ltb-false, leb-true, not-false}
+use lib.Dec.{eqb, leb}
+use borrow.Author.Tests.{eqb-true, eqb-false, ltb-false, leb-true, not-false}
 use Rattle.cells.proofs.PredicatesLaws.{and-right}
 use Rattle.rules.specs.declared.Namespace.{Namespace}
 use Rattle.rules.specs.declared.Tag.{Tag}
-use Rattle.rules.specs.declared.Refusal.{Refusal}
-use Rattle.rules.specs.declared.Answer.{Answer}
 use Rattle.rules.specs.declared.Answer.the-variants.{Done, Refused}
 use Rattle.rules.specs.declared.Command.{Command}
 use Rattle.rules.specs.Numbers.{blocksEach}
 use Rattle.rules.specs.Checks.{Check, _when_, judged, onlyIf, AllPass}
-use Rattle.rules.specs.Answers.{00·28}
-use Rattle.rules.specs.State.{State, Outcome, refuse, obey, managed, IsNamespace}
+use Rattle.rules.specs.Answers.{lineFeed, 00·28}
+use Rattle.rules.specs.State.{State, Outcome, Rule, refuse, obey, managed, IsNamespace}
 use Rattle.rules.specs.Slots.{Contents, slot, empty, loaded, uidOf, keyOf, contentsOf, Held, nothing, holding, held}
 use Rattle.rules.specs.Marks.{mark, neverWritten, identityOf, differs}
 use Rattle.rules.specs.Frames.{manage, load, io, reset}
 use Rattle.rules.specs.Effects.{emptyAllSlots}
 use Rattle.rules.specs.Order as order
 use Rattle.rules.specs.Order.{frameRule, frameOf, lineRule, step, isReading, commandChecks, keyChecks, markCheck, wrongKey}
-use Rattle.rules.specs.Call.{callChecks, roomFor, Called, unanswered, answered, call}
-use Rattle.rules.specs.Sessions.{Session, noSession, allAnswered, session}
+use Rattle.rules.specs.Call.{callChecks, roomFor, Called, unanswered, answered}
+use Rattle.rules.specs.Sessions.{joined, linesOf, Session, noSession, allAnswered}
+use Rattle.rules.specs.Start.{fresh, freshWith, emptiedCache, startChecks, start}
+use Rattle.rules.specs.Promises.{NumbersAsNamed, NoneFed, fed, LinesOfText, Starts, StartRefusedWhen, StartRefusedKeeps, StartsFresh}
 use Rattle.rules.specs.History.{Event, holds, covers, lastWritten}
 use Rattle.rules.specs.Promises.{Calls, Sessions, FromFresh, Steps, checksOf, sessionChecks, RefusedWhen, DoneWhen, RefusedKeeps, Writes}
 use Rattle.rules.specs.Promises.{SessionRefusedWhen, SessionRefusedKeeps, SessionAnswers, SlotAsTold, OneKeyForAKeyUid, CountAsTold, NeverUnsound}
 use Rattle.rules.specs.Promises.{SameIdentityOrNever, LoadFindsNothing, PoolTooSmallWhen, SoundKept, HeldUntilPowerCycle, ControllerResetKeeps}
 use Rattle.rules.specs.Promises.{PowerCycleLocks}
-use Rattle.rules.proofs.ChecksLaws.{judged-append, judged-pass, by-verdict}
+use Rattle.rules.proofs.ChecksLaws.{judged-append, judged-pass, judged-cases, judged-map, by-verdict}
 use Rattle.rules.proofs.StateLaws as state
 use Rattle.rules.proofs.StateLaws.{done, accepted-not, is-namespace}
 use Rattle.rules.proofs.SlotsLaws.{held-bytes}
@@ -45,6 +45,103 @@ use Rattle.rules.proofs.CallLaws.{callRule, outcome, call-obeys, call-u
 use Rattle.rules.proofs.PoolLaws.{pool-too-small}
 use Rattle.rules.proofs.LocksLaws.{held-effect}
 use Rattle.rules.proofs.HistoryLaws.{Kept, kept, named-key}
+
+-- ------------------------------------------------------------------------
+-- Numbers, lines, starts
+
+pub numbers-as-named : NumbersAsNamed
+numbers-as-named = record {
+  is-00·01 = refl;
+  is-00·02 = refl;
+  is-00·0B = refl;
+  is-00·25 = refl;
+  is-00·28 = refl;
+  is-00·80 = refl;
+  is-01·0E = refl;
+  is-01·1E = refl;
+  is-07·01 = refl;
+  is-07·02 = refl;
+  is-07·03 = refl;
+  is-07·04 = refl;
+  is-07·05 = refl;
+  is-07·06 = refl;
+  is-07·07 = refl;
+  is-07·08 = refl;
+  is-07·09 = refl;
+  is-07·0A = refl;
+  is-07·0B = refl;
+  is-07·0C = refl;
+  is-07·0D = refl;
+  is-07·0E = refl;
+  is-07·0F = refl;
+}
+
+-- a byte before the first line, and before none
+joined-back : (b : ℕ) → (b ≡ lineFeed → ⊥) → (lines : List (List ℕ)) (text : List ℕ) → NoneFed lines
+    → (fed lines ≡ text) ⊎ (fed lines ≡ text ++ (lineFeed ∷ []))
+    → (lines ≡ [] → text ≡ [])
+    → NoneFed (joined b lines) × ((fed (joined b lines) ≡ b ∷ text) ⊎ (fed (joined b lines) ≡ (b ∷ text) ++ (lineFeed ∷ [])))
+joined-back b n [] text none back first = (((n, tt), tt), inr (ap (λ t. b ∷ (t ++ (lineFeed ∷ []))) (sym (first refl))))
+joined-back b n (line ∷ lines) text none back first =
+    (((n, none .0), none .1), ⊎-elim (λ e. inl (ap (λ t. b ∷ t) e)) (λ e. inr (ap (λ t. b ∷ t) e)) back)
+
+no-text : (text : List ℕ) → linesOf text ≡ [] → text ≡ []
+unfolding linesOf
+no-text [] e = refl
+no-text (b ∷ text) e = by (eqb b lineFeed) e
+  where
+    some : (lines : List (List ℕ)) → joined b lines ≡ [] → ⊥
+    some [] e = let z : _≡_ {A = ℕ} 0 1 = cc in omega arith
+    some (line ∷ lines) e = let z : _≡_ {A = ℕ} 0 1 = cc in omega arith
+
+    by : (f : Bool) → cond f ([] ∷ linesOf text) (joined b (linesOf text)) ≡ [] → b ∷ text ≡ []
+    by true e = absurd (let z : _≡_ {A = ℕ} 0 1 = cc in omega arith)
+    by false e = absurd (some (linesOf text) e)
+
+cons : {a b : ℕ} {xs ys : List ℕ} → a ≡ b → xs ≡ ys → a ∷ xs ≡ b ∷ ys
+cons p q = cc
+
+-- lines that give a text back
+abbrev Back : List (List ℕ) → List ℕ → Type 0
+Back lines text = NoneFed lines × ((fed lines ≡ text) ⊎ (fed lines ≡ text ++ (lineFeed ∷ [])))
+
+one-byte : (b : ℕ) (text : List ℕ) → Back (linesOf text) text → (f : Bool) → eqb b lineFeed ≡ f
+    → Back (cond f ([] ∷ linesOf text) (joined b (linesOf text))) (b ∷ text)
+one-byte b text back true e =
+    let is = eqb-true b lineFeed e in
+    ((tt, back .0), ⊎-elim (λ p. inl (cons (sym is) p)) (λ p. inr (cons (sym is) p)) (back .1))
+one-byte b text back false e = joined-back b (eqb-false b lineFeed e) (linesOf text) text (back .0) (back .1) (no-text text)
+
+pub lines-of-text : LinesOfText
+unfolding linesOf
+lines-of-text [] = (tt, inl refl)
+lines-of-text (b ∷ text) = one-byte b text (lines-of-text text) (eqb b lineFeed) refl
+
+startRule : List ℕ → List ℕ → Rule
+startRule keys store = record { checks = startChecks keys store; answer = Done; effect = fresh }
+
+pub start-refused-when : StartRefusedWhen Starts
+unfolding start startRule
+start-refused-when keys store o l r =
+    let cs = startChecks keys store in
+    let e : o .answer ≡ obey fresh (startRule keys store) .answer =
+    ap (λ (x : Outcome). x .answer) l ∙ judged-map cs (λ (x : Outcome). x .answer) _ _ ∙ sym (judged-map cs (λ (x : Outcome). x .answer) _ _) in
+    let w = state.refused-when fresh (startRule keys store) r refl in
+    (λ p. w .0 (sym e ∙ p), λ f. e ∙ w .1 f)
+
+pub start-refused-keeps : StartRefusedKeeps Starts
+unfolding start
+start-refused-keeps keys store o l r p =
+    ⊎-elim
+    (λ f. ap (λ (x : Outcome). x .state) (l ∙ f .1))
+    (λ q. absurd (accepted-not Done r refl (sym (ap (λ (x : Outcome). x .answer) (l ∙ q .1)) ∙ p)))
+    (judged-cases (startChecks keys store)
+    (λ q. record { answer = Refused q; state = freshWith (emptiedCache keys) store })
+    (record { answer = Done; state = fresh }))
+
+pub starts-fresh : StartsFresh Starts
+unfolding start
+starts-fresh keys store o l p = l ∙ judged-pass (startChecks keys store) _ _ p
 
 -- ------------------------------------------------------------------------
 -- Calls
@@ -156,7 +253,7 @@ pub held-until-power-cycle : HeldUntilPowerCycle
 held-until-power-cycle s line p h =
     ⊎-elim
     (λ r. inl (rw (r .1) h))
-    (λ t. rw (t .is) (held-effect s p (frameOf line) (t .passes) h))
+    (λ t. rw (t .is) (⊎-elim (λ k. inl k) (λ e. inr (t .read, e)) (held-effect s p (frameOf line) (t .passes) h)))
     (refused-or-taken s line)
 
 -- ------------------------------------------------------------------------

@@ -30,6 +30,7 @@ use Rattle.rules.proofs.AcceptedLaws.{accepts, sized-effect, touched, u
 
 -- the frame is read, and every check of its kind passes
 pub record Taken (s : State) (line : List ℕ) : Type 0 where
+  pub read : AllPass (readingChecks line)
   pub fit : Fit (frameOf line)
   pub passes : AllPass (frameRule s (frameOf line) .checks)
   pub is : step s line ≡ done (frameRule s (frameOf line))
@@ -42,7 +43,7 @@ taken : (s : State) (line : List ℕ) → AllPass (lineRule s line .checks) → 
 unfolding lineRule
 taken s line p e =
     let both = pass-append (readingChecks line) (frameRule s (frameOf line) .checks) p in
-    record { fit = fits (decoded line) (both .0 .1); passes = both .1; is = e }
+    record { read = both .0; fit = fits (decoded line) (both .0 .1); passes = both .1; is = e }
 
 pub refused-or-taken : (s : State) (line : List ℕ) → ((r : Refusal) × (step s line ≡ refuse s r)) ⊎ Taken s line
 refused-or-taken s line = ⊎-elim (λ f. inl f) (λ p. inr (taken s line (p .0) (p .1))) (obeyed s (lineRule s line))

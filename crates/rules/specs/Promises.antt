@@ -18,21 +18,76 @@ use Rattle.rules.specs.declared.Answer.{Answer}
 use Rattle.rules.specs.declared.Answer.the-variants.{Done, Refused}
 use Rattle.rules.specs.Numbers.{namespaces, poolSlots, tagsMost}
 use Rattle.rules.specs.Checks.{Check, AllPass, FirstToFail}
-use Rattle.rules.specs.Answers.{answerLine, accepted, 07·08}
-use Rattle.rules.specs.State.{State, Sized, IsNamespace, count, managed}
+use Rattle.rules.specs.Answers.{refusalNumber, answerLine, lineFeed, accepted}
+use Rattle.rules.specs.Answers.{00·01, 00·02, 00·0B, 00·25, 00·28, 00·80, 01·0E, 01·1E, 07·01, 07·02, 07·03, 07·04, 07·05, 07·06, 07·07, 07·08}
+use Rattle.rules.specs.Answers.{07·09, 07·0A, 07·0B, 07·0C, 07·0D, 07·0E, 07·0F}
+use Rattle.rules.specs.State.{State, Outcome, Sized, IsNamespace, count, managed}
 use Rattle.rules.specs.Slots.{IsSlot, Contents, slot, nothing, holding, held}
 use Rattle.rules.specs.Marks.{identityOf}
 use Rattle.rules.specs.Sound.{unsound}
 use Rattle.rules.specs.Locks.{partition, bothLocked}
 use Rattle.rules.specs.Frames.{manage, load, io, reset}
 use Rattle.rules.specs.Order.{step, lineRule, frameOf, Reads, isReading, commandChecks, keyChecks}
-use Rattle.rules.specs.Start.{fresh}
+use Rattle.rules.specs.Start.{fresh, freshWith, emptiedCache, startChecks, start}
 use Rattle.rules.specs.Call.{Called, callChecks, roomFor, written, call}
 use Rattle.rules.specs.Sessions.{Session, linesOf, endState, answersTo, answerLines, roomForAll, session}
 use Rattle.rules.specs.History.{Event, holds, covers, lastWritten, tagCount, tagCounts}
 
 -- ------------------------------------------------------------------------
+-- The paper's spelling: each name is its number
+
+pub record NumbersAsNamed : Type 0 where
+  pub is-00·01 : refusalNumber 00·01 ≡ 0x0001
+  pub is-00·02 : refusalNumber 00·02 ≡ 0x0002
+  pub is-00·0B : refusalNumber 00·0B ≡ 0x000B
+  pub is-00·25 : refusalNumber 00·25 ≡ 0x0025
+  pub is-00·28 : refusalNumber 00·28 ≡ 0x0028
+  pub is-00·80 : refusalNumber 00·80 ≡ 0x0080
+  pub is-01·0E : refusalNumber 01·0E ≡ 0x010E
+  pub is-01·1E : refusalNumber 01·1E ≡ 0x011E
+  pub is-07·01 : refusalNumber 07·01 ≡ 0x0701
+  pub is-07·02 : refusalNumber 07·02 ≡ 0x0702
+  pub is-07·03 : refusalNumber 07·03 ≡ 0x0703
+  pub is-07·04 : refusalNumber 07·04 ≡ 0x0704
+  pub is-07·05 : refusalNumber 07·05 ≡ 0x0705
+  pub is-07·06 : refusalNumber 07·06 ≡ 0x0706
+  pub is-07·07 : refusalNumber 07·07 ≡ 0x0707
+  pub is-07·08 : refusalNumber 07·08 ≡ 0x0708
+  pub is-07·09 : refusalNumber 07·09 ≡ 0x0709
+  pub is-07·0A : refusalNumber 07·0A ≡ 0x070A
+  pub is-07·0B : refusalNumber 07·0B ≡ 0x070B
+  pub is-07·0C : refusalNumber 07·0C ≡ 0x070C
+  pub is-07·0D : refusalNumber 07·0D ≡ 0x070D
+  pub is-07·0E : refusalNumber 07·0E ≡ 0x070E
+  pub is-07·0F : refusalNumber 07·0F ≡ 0x070F
+
+-- ------------------------------------------------------------------------
+-- The lines of a text: none has a line feed, and each with one behind it gives the text back, up to the last line feed
+
+abbrev pub NoLineFeed : List ℕ → Type 0
+NoLineFeed [] = Unit {0}
+NoLineFeed (b ∷ line) = (b ≡ lineFeed → ⊥) × NoLineFeed line
+
+abbrev pub NoneFed : List (List ℕ) → Type 0
+NoneFed [] = Unit {0}
+NoneFed (line ∷ lines) = NoLineFeed line × NoneFed lines
+
+abbrev pub fed : List (List ℕ) → List ℕ
+fed [] = []
+fed (line ∷ lines) = line ++ (lineFeed ∷ fed lines)
+
+abbrev pub LinesOfText : Type 0
+LinesOfText = (text : List ℕ) → NoneFed (linesOf text) × ((fed (linesOf text) ≡ text) ⊎ (fed (linesOf text) ≡ text ++ (lineFeed ∷ [])))
+
+-- ------------------------------------------------------------------------
 -- What the statements are over, and the definitions' own relations
+
+-- a start: the cache and the store that it was given, and what it left
+abbrev pub OfStarts : Type 1
+OfStarts = List ℕ → List ℕ → Outcome → Type 0
+
+abbrev pub Starts : OfStarts
+Starts keys store o = o ≡ start keys store
 
 -- a call for one line: the state, the line and the output that it was given, and what it left
 abbrev pub OfCalls : Type 1
@@ -54,7 +109,7 @@ OfHistories = List Event → State → Type 0
 
 -- any lines, one after another, from a fresh drive
 pub data FromFresh : List Event → State → Type 0 where
-  start : FromFresh [] fresh
+  begin : FromFresh [] fresh
   one-more : (h : List Event) (s : State) → FromFresh h s → (line : List ℕ)
       → FromFresh (record { line = line; answer = step s line .answer } ∷ h) (step s line .state)
 
@@ -64,6 +119,28 @@ OfAnswers = List Event → State → List ℕ → Answer → Type 0
 
 abbrev pub Steps : OfAnswers
 Steps h s line answer = FromFresh h s × (answer ≡ step s line .answer)
+
+-- ------------------------------------------------------------------------
+-- A start, on any cache and any store
+
+module _ (Leaves : OfStarts) where
+  -- 07 0D exactly for a store of another length, 07 0E exactly for a cache of another length beside a right store.
+  abbrev pub StartRefusedWhen : Type 0
+  StartRefusedWhen =
+      (keys store : List ℕ) (o : Outcome) → Leaves keys store o
+      → (r : Refusal) → (o .answer ≡ Refused r) ↔ FirstToFail (startChecks keys store) r
+
+  -- Then the store stays, and a cache of another length; the state handed back is the fresh one else.
+  abbrev pub StartRefusedKeeps : Type 0
+  StartRefusedKeeps =
+      (keys store : List ℕ) (o : Outcome) → Leaves keys store o
+      → (r : Refusal) → o .answer ≡ Refused r → o .state ≡ freshWith (emptiedCache keys) store
+
+  -- Otherwise the drive is fresh: no keys, and the store zeroed.
+  abbrev pub StartsFresh : Type 0
+  StartsFresh =
+      (keys store : List ℕ) (o : Outcome) → Leaves keys store o
+      → AllPass (startChecks keys store) → o ≡ record { answer = Done; state = fresh }
 
 -- ------------------------------------------------------------------------
 -- Demands 1 and 2: a call for one line, on any state, any line and any output
@@ -208,11 +285,11 @@ module _ (Answers : OfAnswers) where
 abbrev pub SoundKept : Type 0
 SoundKept = (s : State) (line : List ℕ) → Sized s → unsound s ≡ false → Sized (step s line .state) × (unsound (step s line .state) ≡ false)
 
--- A partition in Until Power Cycle stays so until a power cycle, whichever of the two it is and whatever the other is asked.
+-- A partition in Until Power Cycle stays so until a line is read as a power cycle, whichever of the two it is and whatever the other is asked.
 abbrev pub HeldUntilPowerCycle : Type 0
 HeldUntilPowerCycle =
     (s : State) (line : List ℕ) (p : ℕ) → partition p (s .registers .locks) ≡ WriteLockedUntilPowerCycle
-    → (partition p (step s line .state .registers .locks) ≡ WriteLockedUntilPowerCycle) ⊎ (frameOf line ≡ reset 1)
+    → (partition p (step s line .state .registers .locks) ≡ WriteLockedUntilPowerCycle) ⊎ Reads line (reset 1)
 
 -- A controller level reset changes nothing: no key, no lock.
 abbrev pub ControllerResetKeeps : Type 0

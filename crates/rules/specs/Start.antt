@@ -10,7 +10,8 @@ use Rattle.cells.specs.Cells.{zeros}
 use Rattle.rules.specs.declared.Registers.{Registers}
 use Rattle.rules.specs.declared.Answer.the-variants.{Done, Refused}
 use Rattle.rules.specs.Numbers.{namespaces, cacheSize, storeSize}
-use Rattle.rules.specs.Checks.{_when_, judged}
+use Rattle.rules.specs.declared.Refusal.{Refusal}
+use Rattle.rules.specs.Checks.{Check, _when_, judged}
 use Rattle.rules.specs.Answers.{07·0D, 07·0E}
 use Rattle.rules.specs.State.{State, Outcome, wrongCache, wrongStore}
 use Rattle.rules.specs.Locks.{bothLocked}
@@ -28,11 +29,14 @@ fresh = freshWith (zeros cacheSize) (zeros storeSize)
 abbrev pub emptiedCache : List ℕ → List ℕ
 emptiedCache keys = cond (wrongCache keys) keys (zeros cacheSize)
 
+abbrev pub startChecks : List ℕ → List ℕ → List (Check Refusal)
+startChecks keys store =
+    07·0D when wrongStore store
+    ∷ 07·0E when wrongCache keys
+    ∷ []
+
 unfoldable pub start : List ℕ → List ℕ → Outcome
 start keys store =
-    judged
-    (07·0D when wrongStore store
-    ∷ 07·0E when wrongCache keys
-    ∷ [])
+    judged (startChecks keys store)
     (λ r. record { answer = Refused r; state = freshWith (emptiedCache keys) store })
     (record { answer = Done; state = fresh })

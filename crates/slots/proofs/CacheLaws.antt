@@ -6,14 +6,14 @@ use mathlib.Core.Bool.{true, false, not, cond}
 use mathlib.Core.List.{List, [], _∷_, _++_, append-nil}
 use mathlib.Core.Logic.{by-cases}
 use Prim.Native.Nat.{ℕ, _+_, _-_, _*_, _≤_, _<_}
-use native.Mathlib.Nat.{add-zero, one-mul}
+use native.Mathlib.Nat.{add-zero}
 use native.Mathlib.Decide.{ℕ-discrete}
 use native.Mathlib.Omega.{arith}
 use lib.ListN.{length, getD, take, drop, set, length-set, length-append, length-drop, drop-of-length-le}
 use lib.Dec.{eqb}
 use lib.Seq.{set-split}
 use borrow.Author.Tests.{eq-eqb, ne-eqb, lt-ltb, le-leb}
-use Rattle.cells.specs.Cells.{part, cell, zeros, copies, put, fill}
+use Rattle.cells.specs.Cells.{part, cell, zeros, put, fill}
 use Rattle.cells.proofs.CellsLaws.{length-cell, first-cell, part-end, part-cell, cell-past, lent-length-to, copied, push, fill-all}
 use Rattle.rules.specs.declared.Namespace.{Namespace}
 use Rattle.rules.specs.Numbers.{tagsMost, uidMost, keySize, slotWidth, slotPlaces, cacheSize}
@@ -69,11 +69,6 @@ cleared-all-zeros keys =
     by-cases (ℕ-discrete (length keys) cacheSize)
     (λ size. rw (right-cache keys size) (fill-all slotWidth slotPlaces keys size))
     (λ wrong. rw (wrong-cache keys wrong))
-
--- a run of one cell
-pub fill-one : (w i : ℕ) (v xs : List ℕ) → fill w i 1 v xs ≡ put w i v xs
-unfolding fill put copies
-fill-one w i v xs = rw (one-mul, append-nil)
 
 -- ------------------------------------------------------------------------
 -- A slot's parts

@@ -3,17 +3,17 @@
 -- Assumes nothing.
 use mathlib.Core.Path.{_≡_, refl, sym, ap, _∙_}
 use mathlib.Core.Bool.{Bool, true, false, not, _&&_, true≢false}
-use mathlib.Core.List.{List, [], _∷_, _++_}
+use mathlib.Core.List.{List, _∷_, _++_}
 use mathlib.Core.Logic.{by-cases}
 use Prim.Native.Nat.{ℕ, _+_, _-_, _≤_, _<_}
 use native.Mathlib.Decide.{decLt}
 use native.Mathlib.Omega.{arith}
 use lib.ListN.{length, getD, take, drop, length-append, length-take}
-use lib.Seq.{take-at, take-add, drop-drop, drop-cons}
+use lib.Seq.{take-at}
 use borrow.Author.Tests.{not-false, eqb-true}
 use Rattle.cells.specs.Cells.{part, zeros}
 use Rattle.cells.specs.Predicates.{same, allZero}
-use Rattle.cells.proofs.CellsLaws.{length-part, getD-part}
+use Rattle.cells.proofs.CellsLaws.{part-join, part-byte, length-part, getD-part}
 use Rattle.cells.proofs.PredicatesLaws.{same-refl, same-eq, allZero-eq, true-or-false}
 use Rattle.rules.specs.Numbers.{uidMost, slotWidth}
 use Rattle.rules.specs.Slots.{Contents, padded, uidLength, empty, uidOf, keyOf, otherKeyIn}
@@ -62,14 +62,6 @@ module _ (uid c : List ℕ) where
 
 -- ------------------------------------------------------------------------
 -- A sound loaded slot
-
-part-join : (a m n : ℕ) (c : List ℕ) → part a (m + n) c ≡ part a m c ++ part (a + m) n c
-unfolding part
-part-join a m n c = take-add m n (drop a c) ∙ ap (λ k. take m (drop a c) ++ take n k) (drop-drop m a c)
-
-part-byte : (a : ℕ) (c : List ℕ) → a < length c → part a 1 c ≡ getD c a 0 ∷ []
-unfolding part
-part-byte a c h = rw (drop-cons c a 0 h)
 
 module _ (c : List ℕ) (whole : length c ≡ slotWidth) (sound : slotUnsound false c ≡ false) (full : empty c ≡ false) where
   short : uidLength c ≤ uidMost

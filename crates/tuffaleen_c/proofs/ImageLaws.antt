@@ -76,8 +76,11 @@ is-image image e =
 -- ------------------------------------------------------------------------
 -- Copies
 
--- what `copy` leaves in a list as long
-pub copied-whole : (d src : List ℕ) → length d ≡ length src → cond (eqb (length d) (length src)) src d ≡ src
+-- what `copy` leaves
+abbrev copiedTo : List ℕ → List ℕ → List ℕ
+copiedTo d src = cond (eqb (length d) (length src)) src d
+
+pub copied-whole : (d src : List ℕ) → length d ≡ length src → copiedTo d src ≡ src
 copied-whole d src e = rw (eq-eqb _ _ e)
 
 -- the front that the counts are copied from and to
@@ -88,30 +91,28 @@ length-front image size = length-take-le namespaces image (omega arith)
 -- The registers written to the front: `counts` once they are copied, then the
 -- first lock byte and the second
 
-module _
-    {counts : List ℕ} (image : List ℕ) (registers : Registers) (size : length image ≡ imageSize) (four : length (registers .counts) ≡ namespaces)
-    (copied : counts ≡ cond (eqb (length (take namespaces image)) (length (registers .counts))) (registers .counts) (take namespaces image))
-    where
-  counts-are : counts ≡ registers .counts
-  counts-are = copied ∙ copied-whole (take namespaces image) (registers .counts) (length-front image size ∙ sym four)
+module _ (image : List ℕ) (registers : Registers) (size : length image ≡ imageSize) (four : length (registers .counts) ≡ namespaces) where
+  module _ {counts : List ℕ} (copied : counts ≡ copiedTo (take namespaces image) (registers .counts)) where
+    counts-are : counts ≡ registers .counts
+    counts-are = copied ∙ copied-whole (take namespaces image) (registers .counts) (length-front image size ∙ sym four)
 
-  counts-four : length counts ≡ namespaces
-  counts-four = ap length counts-are ∙ four
+    counts-four : length counts ≡ namespaces
+    counts-four = ap length counts-are ∙ four
 
-  pub length-counted : length (counts ++ drop namespaces image) ≡ imageSize
-  length-counted = simp (length-append, length-drop) (omega (arith, counts-four))
+    pub length-counted : length (counts ++ drop namespaces image) ≡ imageSize
+    length-counted = simp (length-append, length-drop) (omega (arith, counts-four))
 
-  pub length-headed : (a : ℕ) → length (set (counts ++ drop namespaces image) namespaces a) ≡ imageSize
-  length-headed a = simp length-set length-counted
+    pub length-headed : (a : ℕ) → length (set (counts ++ drop namespaces image) namespaces a) ≡ imageSize
+    length-headed a = simp length-set length-counted
 
-  pub registers-front : {a b : ℕ} → a ≡ lockValue (registers .locks .partition0) → b ≡ lockValue (registers .locks .partition1)
-      → set (set (counts ++ drop namespaces image) namespaces a) (namespaces + 1) b ≡ registersBytes registers ++ drop registersSize image
-  registers-front {a} {b} x y =
-      let one : length (counts ++ (a ∷ [])) ≡ namespaces + 1 = simp length-append (omega (arith, counts-four)) in
-      ap (λ l. set l (namespaces + 1) b) (grow counts image namespaces a counts-four (omega arith))
-      ∙ grow (counts ++ (a ∷ [])) image (namespaces + 1) b one (omega arith)
-      ∙ ap (λ l. l ++ drop registersSize image) (append-snoc counts a (b ∷ []))
-      ∙ (rw (counts-are, x, y))
+    pub registers-front : {a b : ℕ} → a ≡ lockValue (registers .locks .partition0) → b ≡ lockValue (registers .locks .partition1)
+        → set (set (counts ++ drop namespaces image) namespaces a) (namespaces + 1) b ≡ registersBytes registers ++ drop registersSize image
+    registers-front {a} {b} x y =
+        let one : length (counts ++ (a ∷ [])) ≡ namespaces + 1 = simp length-append (omega (arith, counts-four)) in
+        ap (λ l. set l (namespaces + 1) b) (grow counts image namespaces a counts-four (omega arith))
+        ∙ grow (counts ++ (a ∷ [])) image (namespaces + 1) b one (omega arith)
+        ∙ ap (λ l. l ++ drop registersSize image) (append-snoc counts a (b ∷ []))
+        ∙ (rw (counts-are, x, y))
 
 -- ------------------------------------------------------------------------
 -- The cache, lent where it lies
@@ -200,14 +201,9 @@ module _ {at : ℕ} (image marks : List ℕ) where
   unfolding cStart
   c-started {o} place done l m =
       let lends = start-lends image place in
-      (rw (m, l .1 ∙ back-saved lends (o .state) (l .0)))
-      ∙ ap (λ (x : Outcome). record { number = number (x .answer); image = saved (wrongLength image) image (x .state); marks = x .state .marks })
-      (done ∙ ap (λ k. start k marks) (lent-keys lends))
+      rw (m, l .1 ∙ back-saved lends (o .state) (l .0), done ∙ ap (λ k. start k marks) (lent-keys lends))
 
-  module _
-      {none : Bool} {registers : Registers}
-      (is : none ≡ noImage image) (place : at ≡ keysAt none image) (were : registers ≡ registersIn none image)
-      where
+  module _ {none : Bool} {registers : Registers} (is : none ≡ noImage image) (place : at ≡ keysAt none image) (were : registers ≡ registersIn none image) where
     abbrev lentState : State
     lentState = record { registers = registers; keys = lentFrom at image; marks = marks }
 

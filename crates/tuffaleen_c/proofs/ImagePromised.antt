@@ -18,7 +18,7 @@ use Rattle.rules.specs.declared.Refusal.{Refusal}
 use Rattle.rules.specs.declared.Answer.{Answer}
 use Rattle.rules.specs.declared.Answer.the-variants.{Done, LockStates, Refused}
 use Rattle.rules.specs.Numbers.{namespaces, cacheSize}
-use Rattle.rules.specs.Answers.{number, refusalNumber, answerLine}
+use Rattle.rules.specs.Answers.{number, refusalNumber}
 use Rattle.rules.specs.State.{State, wrongStore}
 use Rattle.rules.specs.Sound.{unsound}
 use Rattle.rules.specs.Locks.{lockValue}
@@ -27,7 +27,7 @@ use Rattle.rules.specs.Call.{Called, call}
 use Rattle.rules.specs.Sessions.{Session, noSession, session}
 use Rattle.rules.specs.Promises.{sessionChecks}
 use Rattle.rules.proofs.ChecksLaws.{by-verdict}
-use Rattle.rules.proofs.AnswersLaws.{line-then}
+use Rattle.rules.proofs.AnswersLaws.{some-number}
 use Rattle.rules.proofs.CallLaws.{session-unread}
 use Rattle.rules.proofs.Promised.{refused-keeps, writes, session-refused-keeps}
 use Rattle.tuffaleen_c.specs.Image.{partitions, registersSize, imageSize, lockOf, noLock, lockByte0, lockByte1, noImage}
@@ -105,14 +105,6 @@ stays image marks s e = (ap (saved (noImage image) image) e ∙ by (noImage imag
     by : (b : Bool) → noImage image ≡ b → saved b image (stateIn image marks) ≡ image
     by true p = refl
     by false p = same-image image marks p
-
--- a refusal with the number 0 would be said in Done's line
-some-number : (r : Refusal) → 0 ≡ refusalNumber r → ⊥
-unfolding answerLine
-some-number r e =
-    let done : Done ≡ Refused r = line-then Done (Refused r) [] [] tt tt (rw (← e)) .0 in
-    let z : _≡_ {A = ℕ} 0 1 = cc in
-    omega arith
 
 -- an answer with a refusal's number is a refusal
 refusal : (a : Answer) (r : Refusal) → number a ≡ refusalNumber r → (q : Refusal) × (a ≡ Refused q)

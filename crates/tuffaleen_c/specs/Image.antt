@@ -118,4 +118,11 @@ pub record CSession : Type 0 where
 unfoldable pub cSession : List ℕ → List ℕ → List ℕ → List ℕ → CSession
 cSession image marks text out =
     let c = session (stateIn image marks) text out in
-    record { number = number (c .result); image = saved (noImage image) image (c .state); marks = c .state .marks; lines = c .lines; bytes = c .bytes; out = c .out }
+    record {
+      number = number (c .result);
+      image = saved (noImage image) image (c .state);
+      marks = c .state .marks;
+      lines = c .lines;
+      bytes = c .bytes;
+      out = c .out;
+    }

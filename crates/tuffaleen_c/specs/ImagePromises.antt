@@ -48,7 +48,9 @@ SessionRefusedKeepsImage =
 
 -- With an image that is none nothing is written, whatever the refusal, and a session's counts are 0.
 abbrev pub NoImageWritesNothing : Type 0
-NoImageWritesNothing = (image marks line out : List ℕ) → noImage image ≡ true → (cCall image marks line out .bytes ≡ 0) × (cCall image marks line out .out ≡ out)
+NoImageWritesNothing =
+    (image marks line out : List ℕ) → noImage image ≡ true
+    → (cCall image marks line out .bytes ≡ 0) × (cCall image marks line out .out ≡ out)
 
 abbrev pub NoImageNoSession : Type 0
 NoImageNoSession =

@@ -27,7 +27,8 @@ pub extern "C" fn tuffaleen_line(
     out: &mut [u8],
     written: &mut usize,
 ) -> u16
-    ensures { λ r. ⌜ record { number = r; image = now (image .exit); marks = now (marks .exit); bytes = now (written .exit); out = now (out .exit) } ≡ cCall (now (image .entry)) (now (marks .entry)) (now (line .entry)) (now (out .entry)) ⌝ }
+    ensures { λ r. ⌜ record { number = r; image = now (image .exit); marks = now (marks .exit); bytes = now (written .exit); out = now (out .exit) }
+        ≡ cCall (now (image .entry)) (now (marks .entry)) (now (line .entry)) (now (out .entry)) ⌝ }
 {
     let none = image::no_image(image);
     let at = image::keys_at(image, none);
@@ -50,7 +51,15 @@ pub extern "C" fn tuffaleen_session(
     lines: &mut usize,
     written: &mut usize,
 ) -> u16
-    ensures { λ r. ⌜ record { number = r; image = now (image .exit); marks = now (marks .exit); lines = now (lines .exit); bytes = now (written .exit); out = now (out .exit) } ≡ cSession (now (image .entry)) (now (marks .entry)) (now (text .entry)) (now (out .entry)) ⌝ }
+    ensures { λ r. ⌜ record {
+      number = r;
+      image = now (image .exit);
+      marks = now (marks .exit);
+      lines = now (lines .exit);
+      bytes = now (written .exit);
+      out = now (out .exit);
+    }
+        ≡ cSession (now (image .entry)) (now (marks .entry)) (now (text .entry)) (now (out .entry)) ⌝ }
 {
     let none = image::no_image(image);
     let at = image::keys_at(image, none);

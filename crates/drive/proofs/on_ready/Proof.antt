@@ -1,4 +1,4 @@
--- `on_ready` meets its contract: the line, its answer, and the frame wiped.
+-- `on_ready` meets its contract: the line, and its answer.
 -- Assumes nothing.
 use borrow.Author.Needs.{needs}
 use Rattle.rules.specs.State.{State}
@@ -14,10 +14,10 @@ returns c =
     let w : tie.After-write-answer = search in
     let a = s .args in
     let now : State = state (a .registers) (a .keys .now) (a .marks .now) in
-    replied now (a .line .now) (a .out .now) _ _ (o .on-line .ensures) (s .pre .1) (w .write-answer .ensures)
+    replied now (a .line .now) (a .out .now) _ _ (o .on-line .ensures .0) (s .pre .1) (w .write-answer .ensures)
 
 pub on-ready-spec : {M : Type 1} → statement M
 on-ready-spec =
     tie.close
     (tie.spec
-    (λ c κs. search needs) (λ c κs. search needs) (λ c κs. search needs) (λ c. search needs) (λ c. search needs) (λ c. search needs) returns)
+    (λ c κs. search needs) (λ c κs. search needs) (λ c. search needs) (λ c. search needs) (λ c. search needs) returns)

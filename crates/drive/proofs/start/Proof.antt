@@ -4,9 +4,7 @@ use borrow.Author.Needs.{needs}
 use native.Mathlib.Omega.{arith}
 use mathlib.Core.Path.{_≡_, ap, _∙_}
 use mathlib.Core.Bool.{true, false}
-use lib.ListN.{length}
 use Rattle.cells.specs.Cells.{zeros}
-use Rattle.rules.specs.Numbers.{cacheSize, storeSize}
 use Rattle.rules.specs.State.{wrongCache, wrongStore}
 use Rattle.rules.specs.Start.{freshRegisters, start}
 use Rattle.slots.proofs.CacheLaws.{wrong-cache, right-cache, cleared-all-zeros}

@@ -6,7 +6,8 @@ use borrow.Author.Tests.{le-ltb}
 use Rattle.rules.specs.Numbers.{slotWidth, slotPlaces}
 use Rattle.rules.specs.Slots.{emptied}
 use Rattle.slots.specs.Cache.{cleared}
-use Rattle.slots.proofs.CacheLaws.{wrong-cache, right-cache, cleared-is, fill-one}
+use Rattle.cells.proofs.CellsLaws.{fill-one}
+use Rattle.slots.proofs.CacheLaws.{wrong-cache, right-cache, cleared-is}
 use Rattle.slots.proofs.clear.Statement.{statement}
 use Rattle.slots.proofs.clear.Tie as tie
 

@@ -6,15 +6,6 @@ use Rattle.tuffaleen_c.proofs.ImageLaws.{call-lends, lent-within, back-
 use Rattle.tuffaleen_c.proofs.tuffaleen_line.Statement.{statement}
 use Rattle.tuffaleen_c.proofs.tuffaleen_line.Tie as tie
 
-no-image-requires : tie.Need-no-image-requires
-no-image-requires c κs = search needs
-
-keys-at-requires : tie.Need-keys-at-requires
-keys-at-requires c κs = search needs
-
-registers-in-requires : tie.Need-registers-in-requires
-registers-in-requires c κs = search needs
-
 sub-answer-line : tie.Need-sub-answer-line
 sub-answer-line c =
     let k : tie.After-keys-at = search in
@@ -29,12 +20,6 @@ part-answer-line-start c =
     let s : tie.Start = search in
     lent-within (call-lends (s .args .image .now) (i .no-image .ensures) (k .keys-at .ensures))
 
-part-answer-line-end : tie.Need-part-answer-line-end
-part-answer-line-end c = search needs
-
-answer-line-requires : tie.Need-answer-line-requires
-answer-line-requires c κs = search needs
-
 save-requires : tie.Need-save-requires
 save-requires c κs =
     let r : tie.After-answer-line = search in
@@ -43,18 +28,6 @@ save-requires c κs =
     let s : tie.Start = search in
     let lends = call-lends (s .args .image .now) (i .no-image .ensures) (k .keys-at .ensures) in
     back-size lends (r .answer-line .last .1 .0) (r .answer-line .kept .1 .0)
-
-number-requires : tie.Need-number-requires
-number-requires c κs = search needs
-
-same-length : tie.Need-same-length
-same-length c = search needs
-
-same-length-2 : tie.Need-same-length-2
-same-length-2 c = search needs
-
-same-length-3 : tie.Need-same-length-3
-same-length-3 c = search needs
 
 returns : tie.Need-returns
 returns c =
@@ -72,16 +45,6 @@ pub tuffaleen-line-spec : {M : Type 1} → statement M
 tuffaleen-line-spec =
     tie.close
     (tie.spec
-    no-image-requires
-    keys-at-requires
-    registers-in-requires
-    sub-answer-line
-    part-answer-line-start
-    part-answer-line-end
-    answer-line-requires
-    save-requires
-    number-requires
-    same-length
-    same-length-2
-    same-length-3
-    returns)
+    (λ c κs. search needs) (λ c κs. search needs) (λ c κs. search needs) sub-answer-line part-answer-line-start
+    (λ c. search needs) (λ c κs. search needs) save-requires
+    (λ c κs. search needs) (λ c. search needs) (λ c. search needs) (λ c. search needs) returns)

@@ -6,15 +6,6 @@ use Rattle.tuffaleen_c.proofs.ImageLaws.{call-lends, lent-within, back-
 use Rattle.tuffaleen_c.proofs.tuffaleen_session.Statement.{statement}
 use Rattle.tuffaleen_c.proofs.tuffaleen_session.Tie as tie
 
-no-image-requires : tie.Need-no-image-requires
-no-image-requires c κs = search needs
-
-keys-at-requires : tie.Need-keys-at-requires
-keys-at-requires c κs = search needs
-
-registers-in-requires : tie.Need-registers-in-requires
-registers-in-requires c κs = search needs
-
 sub-answer-session : tie.Need-sub-answer-session
 sub-answer-session c =
     let k : tie.After-keys-at = search in
@@ -29,12 +20,6 @@ part-answer-session-start c =
     let s : tie.Start = search in
     lent-within (call-lends (s .args .image .now) (i .no-image .ensures) (k .keys-at .ensures))
 
-part-answer-session-end : tie.Need-part-answer-session-end
-part-answer-session-end c = search needs
-
-answer-session-requires : tie.Need-answer-session-requires
-answer-session-requires c κs = search needs
-
 save-requires : tie.Need-save-requires
 save-requires c κs =
     let r : tie.After-answer-session = search in
@@ -43,18 +28,6 @@ save-requires c κs =
     let s : tie.Start = search in
     let lends = call-lends (s .args .image .now) (i .no-image .ensures) (k .keys-at .ensures) in
     back-size lends (r .answer-session .last .1 .0) (r .answer-session .kept .1 .0)
-
-number-requires : tie.Need-number-requires
-number-requires c κs = search needs
-
-same-length : tie.Need-same-length
-same-length c = search needs
-
-same-length-2 : tie.Need-same-length-2
-same-length-2 c = search needs
-
-same-length-3 : tie.Need-same-length-3
-same-length-3 c = search needs
 
 returns : tie.Need-returns
 returns c =
@@ -72,16 +45,6 @@ pub tuffaleen-session-spec : {M : Type 1} → statement M
 tuffaleen-session-spec =
     tie.close
     (tie.spec
-    no-image-requires
-    keys-at-requires
-    registers-in-requires
-    sub-answer-session
-    part-answer-session-start
-    part-answer-session-end
-    answer-session-requires
-    save-requires
-    number-requires
-    same-length
-    same-length-2
-    same-length-3
-    returns)
+    (λ c κs. search needs) (λ c κs. search needs) (λ c κs. search needs) sub-answer-session part-answer-session-start
+    (λ c. search needs) (λ c κs. search needs) save-requires
+    (λ c κs. search needs) (λ c. search needs) (λ c. search needs) (λ c. search needs) returns)

@@ -5,9 +5,6 @@ use Rattle.tuffaleen_c.proofs.ImageLaws.{start-lends, lent-within, back
 use Rattle.tuffaleen_c.proofs.tuffaleen_start.Statement.{statement}
 use Rattle.tuffaleen_c.proofs.tuffaleen_start.Tie as tie
 
-keys-at-requires : tie.Need-keys-at-requires
-keys-at-requires c κs = search needs
-
 sub-start : tie.Need-sub-start
 sub-start c =
     let k : tie.After-keys-at = search in
@@ -20,27 +17,12 @@ part-start-start c =
     let s : tie.Start = search in
     lent-within (start-lends (s .args .image .now) (k .keys-at .ensures))
 
-part-start-end : tie.Need-part-start-end
-part-start-end c = search needs
-
-start-requires : tie.Need-start-requires
-start-requires c κs = search needs
-
 save-requires : tie.Need-save-requires
 save-requires c κs =
     let r : tie.After-start = search in
     let k : tie.After-keys-at = search in
     let s : tie.Start = search in
     back-size (start-lends (s .args .image .now) (k .keys-at .ensures)) (r .start .last .0) (r .start .kept .0)
-
-number-requires : tie.Need-number-requires
-number-requires c κs = search needs
-
-same-length : tie.Need-same-length
-same-length c = search needs
-
-same-length-2 : tie.Need-same-length-2
-same-length-2 c = search needs
 
 returns : tie.Need-returns
 returns c =
@@ -55,13 +37,6 @@ pub tuffaleen-start-spec : {M : Type 1} → statement M
 tuffaleen-start-spec =
     tie.close
     (tie.spec
-    keys-at-requires
-    sub-start
-    part-start-start
-    part-start-end
-    start-requires
-    save-requires
-    number-requires
-    same-length
-    same-length-2
-    returns)
+    (λ c κs. search needs) sub-start part-start-start
+    (λ c. search needs) (λ c κs. search needs) save-requires
+    (λ c κs. search needs) (λ c. search needs) (λ c. search needs) returns)

@@ -1,7 +1,9 @@
--- `on_line` meets its contract: what was read stands for the line.
+-- `on_line` meets its contract: what was read stands for the line, and the frame is wiped.
 -- Assumes nothing.
 use borrow.Author.Needs.{needs}
 use mathlib.Core.Path.{ap, _∙_}
+use Rattle.cells.specs.Predicates.{allZero}
+use Rattle.cells.proofs.PredicatesLaws.{allZero-zeros}
 use Rattle.rules.specs.State.{State}
 use Rattle.frames.proofs.ReadingLaws.{means, lies}
 use Rattle.drive.specs.Acting.{state, acted}
@@ -17,12 +19,15 @@ act-requires c κs =
 
 returns : tie.Need-returns
 returns c =
-    let s : tie.Start = search in
-    let r : tie.After-read = search in
+    let w : tie.After-fill-zero = search in
     let t : tie.After-act = search in
+    let r : tie.After-read = search in
+    let s : tie.Start = search in
     let a = s .args in
-    let now : State = state (a .registers) (a .keys .now) (a .marks .now) in
-    t .act .ensures ∙ ap (acted now) (means (a .line .now) _ (r .read .result) _ (r .read .ensures)) ∙ line-acts now (a .line .now)
+    let now : State = state (a .registers) (a .keys .now) (a .marks .now) in (
+      t .act .ensures ∙ ap (acted now) (means (a .line .now) _ (r .read .result) _ (r .read .ensures)) ∙ line-acts now (a .line .now),
+      ap allZero (w .fill-zero .ensures) ∙ allZero-zeros _,
+    )
 
 pub on-line-spec : {M : Type 1} → statement M
-on-line-spec = tie.close (tie.spec (λ c κs. search needs) act-requires (λ c. search needs) (λ c. search needs) returns)
+on-line-spec = tie.close (tie.spec (λ c κs. search needs) act-requires (λ c κs. search needs) (λ c. search needs) (λ c. search needs) returns)

@@ -3,11 +3,11 @@
 use borrow.Author.Needs.{needs}
 use mathlib.Core.Path.{_≡_, sym, _∙_}
 use mathlib.Core.List.{[]}
-use mathlib.Core.Bool.{true, false}
+use mathlib.Core.Bool.{false}
 use borrow.Author.Tests.{eq-eqb, ne-eqb}
 use Rattle.rules.specs.State.{noNamespace, count}
 use Rattle.rules.proofs.StateLaws.{is-namespace}
-use Rattle.drive.specs.Acting.{state, outOfRange, reached}
+use Rattle.drive.specs.Acting.{state, reached}
 use Rattle.drive.proofs.io.reach.Statement.{statement}
 use Rattle.drive.proofs.io.reach.Tie as tie
 

@@ -70,8 +70,8 @@ add-bytes c =
     let here : State = state (i .registers) (i .keys) (i .marks) in
     let line = n .next-line .ensures in
     let room = room-more first (a .text .now) (a .out .now) here (i .at) (i .lines) (i .bytes) (i .out) (i .inv .0) _ _ line in
-    let size = wrote-bytes here _ (i .out) _ _ (o .on-line .ensures) (i .bytes) _ room (w .write-answer .ensures) in
-    let fit = fits first (a .text .now) (a .out .now) here (i .at) (i .lines) (i .bytes) (i .out) (i .inv .0) _ _ line _ (o .on-line .ensures) in
+    let size = wrote-bytes here _ (i .out) _ _ (o .on-line .ensures .0) (i .bytes) _ room (w .write-answer .ensures) in
+    let fit = fits first (a .text .now) (a .out .now) here (i .at) (i .lines) (i .bytes) (i .out) (i .inv .0) _ _ line _ (o .on-line .ensures .0) in
     let whole = i .inv .0 .size in
     omega (arith, s .good)
 
@@ -105,11 +105,11 @@ loop-again c =
     let here : State = state (i .registers) (i .keys) (i .marks) in
     let line = n .next-line .ensures in
     let room = room-more first (a .text .now) (a .out .now) here (i .at) (i .lines) (i .bytes) (i .out) (i .inv .0) _ _ line in
-    let size = wrote-bytes here _ (i .out) _ _ (o .on-line .ensures) (i .bytes) _ room (w .write-answer .ensures) in
-    let back = wrote-back here _ (i .out) _ _ (o .on-line .ensures) (i .bytes) _ room (w .write-answer .ensures) in (
+    let size = wrote-bytes here _ (i .out) _ _ (o .on-line .ensures .0) (i .bytes) _ room (w .write-answer .ensures) in
+    let back = wrote-back here _ (i .out) _ _ (o .on-line .ensures .0) (i .bytes) _ room (w .write-answer .ensures) in (
       rw (back, size)
-          (mid-more first (a .text .now) (a .out .now) here (i .at) (i .lines) (i .bytes) (i .out) (i .inv .0) _ _ line _ (o .on-line .ensures)),
-      ready-next (i .registers) (i .keys) (i .marks) _ (o .on-line .result) _ _ (i .inv .1) (o .on-line .ensures),
+          (mid-more first (a .text .now) (a .out .now) here (i .at) (i .lines) (i .bytes) (i .out) (i .inv .0) _ _ line _ (o .on-line .ensures .0)),
+      ready-next (i .registers) (i .keys) (i .marks) _ (o .on-line .result) _ _ (i .inv .1) (o .on-line .ensures .0),
     )
 
 same-length : tie.Need-same-length Inv-loop μ-loop
@@ -141,5 +141,4 @@ run-spec =
     (tie.spec
     Inv-loop μ-loop loop-holds (λ c κs. omega arith) sub-on-line part-on-line-start part-on-line-end on-line-requires sub-write-answer
     part-write-answer-start
-    (λ c. search needs) (λ c κs. tt) add-bytes add-lines loop-less loop-again
-    (λ c κs. tt) same-length same-length-2 same-length-3 returns)
+    (λ c. search needs) (λ c κs. tt) add-bytes add-lines loop-less loop-again same-length same-length-2 same-length-3 returns)

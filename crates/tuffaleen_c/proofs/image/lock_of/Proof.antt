@@ -5,9 +5,6 @@ use Rattle.tuffaleen_c.proofs.ImageLaws.{locked-of, held-of}
 use Rattle.tuffaleen_c.proofs.image.lock_of.Statement.{statement}
 use Rattle.tuffaleen_c.proofs.image.lock_of.Tie as tie
 
-returns : tie.Need-returns
-returns c = search needs
-
 returns-2 : tie.Need-returns-2
 returns-2 c =
     let m : tie.At-match-rest = search in
@@ -18,4 +15,4 @@ returns-3 : tie.Need-returns-3
 returns-3 c = let s : tie.Start = search in held-of (s .args .b) (c .if1 .left)
 
 pub lock-of-spec : {M : Type 1} → statement M
-lock-of-spec = tie.close (tie.spec returns returns-2 returns-3)
+lock-of-spec = tie.close (tie.spec (λ c. search needs) returns-2 returns-3)

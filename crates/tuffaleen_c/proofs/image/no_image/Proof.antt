@@ -9,21 +9,6 @@ use Rattle.tuffaleen_c.proofs.image.no_image.Tie as tie
 returns : tie.Need-returns
 returns c = let s : tie.Start = search in sym (other-length (s .args .image .now) (c .if1 .taken))
 
-shared-slice-read-no-lock : tie.Need-shared-slice-read-no-lock
-shared-slice-read-no-lock c = search needs
-
-no-lock-requires : tie.Need-no-lock-requires
-no-lock-requires c κs = search needs
-
-add-no-lock : tie.Need-add-no-lock
-add-no-lock c = search needs
-
-shared-slice-read-no-lock-2 : tie.Need-shared-slice-read-no-lock-2
-shared-slice-read-no-lock-2 c = search needs
-
-no-lock-requires-2 : tie.Need-no-lock-requires-2
-no-lock-requires-2 c κs = search needs
-
 returns-2 : tie.Need-returns-2
 returns-2 c =
     let x : tie.After-no-lock = search in
@@ -43,11 +28,4 @@ pub no-image-spec : {M : Type 1} → statement M
 no-image-spec =
     tie.close
     (tie.spec
-    returns
-    shared-slice-read-no-lock
-    no-lock-requires
-    add-no-lock
-    shared-slice-read-no-lock-2
-    no-lock-requires-2
-    returns-2
-    returns-3)
+    returns (λ c. search needs) (λ c κs. search needs) (λ c. search needs) (λ c. search needs) (λ c κs. search needs) returns-2 returns-3)

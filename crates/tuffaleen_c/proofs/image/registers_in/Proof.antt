@@ -17,15 +17,9 @@ use Rattle.tuffaleen_c.proofs.image.registers_in.Tie as tie
 size : (s : tie.Start) → s .args .none ≡ false → length (s .args .image .now) ≡ imageSize
 size s e = is-image (s .args .image .now) (sym (s .pre) ∙ e) .size
 
-both-locked-requires : tie.Need-both-locked-requires
-both-locked-requires c κs = search needs
-
 returns : tie.Need-returns
 unfolding registersIn freshRegisters zeros
 returns c = let t : tie.Then1 = search in rw (t .if1 .taken, c .both-locked .ensures)
-
-slice-aggregate-copy : tie.Need-slice-aggregate-copy
-slice-aggregate-copy c = search needs
 
 slice-aggregate-copy-2 : tie.Need-slice-aggregate-copy-2
 slice-aggregate-copy-2 c =
@@ -33,29 +27,17 @@ slice-aggregate-copy-2 c =
     let s : tie.Start = search in
     sym (length-front (s .args .image .now) (size s (e .if1 .left)))
 
-copy-requires : tie.Need-copy-requires
-copy-requires c κs = search needs
-
 shared-slice-read-lock-of : tie.Need-shared-slice-read-lock-of
 shared-slice-read-lock-of c =
     let e : tie.Else1 = search in
     let s : tie.Start = search in
     omega (arith, size s (e .if1 .left))
 
-lock-of-requires : tie.Need-lock-of-requires
-lock-of-requires c κs = search needs
-
-add-lock-of : tie.Need-add-lock-of
-add-lock-of c = search needs
-
 shared-slice-read-lock-of-2 : tie.Need-shared-slice-read-lock-of-2
 shared-slice-read-lock-of-2 c =
     let e : tie.Else1 = search in
     let s : tie.Start = search in
     omega (arith, size s (e .if1 .left))
-
-lock-of-requires-2 : tie.Need-lock-of-requires-2
-lock-of-requires-2 c κs = search needs
 
 returns-2 : tie.Need-returns-2
 unfolding registersIn
@@ -73,14 +55,8 @@ pub registers-in-spec : {M : Type 1} → statement M
 registers-in-spec =
     tie.close
     (tie.spec
-    both-locked-requires
-    returns
-    slice-aggregate-copy
-    slice-aggregate-copy-2
-    copy-requires
-    shared-slice-read-lock-of
-    lock-of-requires
-    add-lock-of
-    shared-slice-read-lock-of-2
-    lock-of-requires-2
-    returns-2)
+    (λ c κs. search needs) returns
+    (λ c. search needs) slice-aggregate-copy-2
+    (λ c κs. search needs) shared-slice-read-lock-of
+    (λ c κs. search needs) (λ c. search needs) shared-slice-read-lock-of-2
+    (λ c κs. search needs) returns-2)
