@@ -10,10 +10,10 @@
  * It needs memcpy and memset and nothing else of a C library: no heap, no input or output, no threads. A call takes
  * less than 1 KB of stack.
  *
- * Keys are worked on where they lie, in the image, and are not copied. A line that brings a key is decoded into 70 bytes
- * on the stack, which are zeroed before the call returns. A compiler may drop such stores; in the object code that rt
- * makes (its clang 22, -O3, x86-64) they are there, at the end of drive::act::on_line. What processor registers and the
- * text that you handed over still hold, the library does not wipe.
+ * Keys are worked on where they lie, in the image, and are not copied. A line that brings a key is decoded into 70
+ * bytes on the stack, which are zeroed before the call returns. A compiler may drop such stores; in the object code
+ * that rt makes (its clang 22, -O3, x86-64) they are there, at the end of drive::act::on_line. What processor
+ * registers and the text that you handed over still hold, the library does not wipe.
  *
  * The library keeps nothing between calls. All it knows lies in two buffers of yours:
  *
@@ -24,7 +24,8 @@
  *
  * What must outlast the power is the marks and the four tag counts, and nothing else of the image, which has the keys.
  * After a loss of power make the image anew: the tag counts kept, both locks Write Locked, every other byte zero. That
- * is what the line 0B01 (power cycle) makes of any sound image. Do not call tuffaleen_start: it zeroes the marks.
+ * is what the line 0B01 (power cycle) makes of any sound image, and examples/power-loss.c shows it. Do not call
+ * tuffaleen_start: it zeroes the marks.
  *
  * What the caller promises, since no function can check it:
  *
@@ -49,6 +50,13 @@
 #ifdef __cplusplus
 extern "C" {
 #endif
+
+/*
+ * Counts up whenever a size, an offset or the meaning of a byte of image or mark store changes. Store it beside the
+ * marks and tag counts, and hand these to no library of another version. The library cannot check that: no byte of the
+ * image or of the store holds the version.
+ */
+#define TUFFALEEN_LAYOUT_VERSION 1
 
 /* Sizes in bytes. */
 #define TUFFALEEN_IMAGE_BYTES 6278   /* an image, exactly */

@@ -1,0 +1,417 @@
+/* The header against the library: every size, offset, lock state and answer of include/tuffaleen.h, by what the
+ * library does. The buffers are larger than the header says, so that a wrong number makes a failure and no crash. */
+#include <stdio.h>
+#include <string.h>
+#include <tuffaleen.h>
+
+#define ROOM 32768
+#define UNTOUCHED 0xEE
+
+#define KEY_1 "1111111111111111111111111111111111111111111111111111111111111111"
+#define KEY_2 "2222222222222222222222222222222222222222222222222222222222222222"
+#define UID_16 "10" "A0A1A2A3A4A5A6A7A8A9AAABACADAEAF"
+
+/* An I/O command to namespace 1, from a first block, with a block count minus one and a key tag. */
+#define IO(opcode, block, more, tag) \
+    "07" opcode "00000001000000" "0000000000000000000000000000000000000000000000000000000000000000" \
+    block "00000000000000" more "00" "0100" tag "00" "00000000000000000000"
+
+static uint8_t image[ROOM], marks[ROOM], awaited_image[ROOM], awaited_marks[ROOM], out[ROOM];
+static size_t written;
+static int failures;
+
+#define CHECK(good, ...) \
+    do { \
+        if (!(good)) { \
+            failures++; \
+            printf("layout: different: " __VA_ARGS__); \
+            puts(""); \
+        } \
+    } while (0)
+
+static uint16_t ask_text(const char *line, size_t line_len)
+{
+    return tuffaleen_line(image, TUFFALEEN_IMAGE_BYTES, marks, TUFFALEEN_MARKS_BYTES, (const uint8_t *)line, line_len,
+                          out, TUFFALEEN_ANSWER_BYTES, &written);
+}
+
+static uint16_t ask(const char *line)
+{
+    return ask_text(line, strlen(line));
+}
+
+static uint16_t ask_frame(const uint8_t *frame, size_t len)
+{
+    char line[140];
+    for (size_t i = 0; i < len; i++) {
+        line[2 * i] = "0123456789ABCDEF"[frame[i] >> 4];
+        line[2 * i + 1] = "0123456789ABCDEF"[frame[i] & 15];
+    }
+    return ask_text(line, 2 * len);
+}
+
+static void start(void)
+{
+    memset(image, UNTOUCHED, ROOM);
+    memset(marks, UNTOUCHED, ROOM);
+    uint16_t answer = tuffaleen_start(image, TUFFALEEN_IMAGE_BYTES, marks, TUFFALEEN_MARKS_BYTES);
+    CHECK(answer == TUFFALEEN_DONE, "start answers %04X", answer);
+}
+
+static void manage(int ns, int tags)
+{
+    uint16_t answer = ask_frame((uint8_t[]){0x01, ns, tags}, 3);
+    CHECK(answer == TUFFALEEN_DONE, "%d tags for namespace %d: %04X", tags, ns, answer);
+}
+
+/* Loads a KeyUID of 1 to 16 bytes that no other slot gets, and tells the bytes that its slot must have. */
+static void load(int ns, int tag, uint8_t slot[49])
+{
+    int len = tag % 16 + 1;
+    uint8_t frame[53] = {0x03, ns, tag, 0, len};
+    memset(slot, 0, 49);
+    slot[0] = len;
+    for (int i = 0; i < len; i++)
+        slot[1 + i] = 32 * ns + tag + i;
+    for (int i = 0; i < 32; i++)
+        slot[17 + i] = 255 - 32 * ns - tag - 3 * i;
+    memcpy(frame + 5, slot + 1, len);
+    memcpy(frame + 5 + len, slot + 17, 32);
+    uint16_t answer = ask_frame(frame, 37 + len);
+    CHECK(answer == TUFFALEEN_DONE, "load under tag %d of namespace %d: %04X", tag, ns, answer);
+}
+
+static void await_as_now(void)
+{
+    memcpy(awaited_image, image, ROOM);
+    memcpy(awaited_marks, marks, ROOM);
+}
+
+static void lay(uint8_t *whole, size_t at, const uint8_t *bytes, size_t len)
+{
+    CHECK(at <= ROOM - len, "an offset of %ld", (long)at);
+    if (at <= ROOM - len)
+        memcpy(whole + at, bytes, len);
+}
+
+static int as_awaited(void)
+{
+    return memcmp(image, awaited_image, ROOM) == 0 && memcmp(marks, awaited_marks, ROOM) == 0;
+}
+
+static void check_buffer(int image_off, int marks_off, uint16_t awaited)
+{
+    size_t image_len = TUFFALEEN_IMAGE_BYTES + image_off, marks_len = TUFFALEEN_MARKS_BYTES + marks_off;
+    start();
+    await_as_now();
+    uint16_t answer = tuffaleen_line(image, image_len, marks, marks_len, (const uint8_t *)"0B00", 4, out,
+                                     TUFFALEEN_ANSWER_BYTES, &written);
+    CHECK(answer == awaited, "a line, sizes off by %d and %d: %04X", image_off, marks_off, answer);
+    answer = tuffaleen_start(image, image_len, marks, marks_len);
+    CHECK(answer == awaited, "start, sizes off by %d and %d: %04X", image_off, marks_off, answer);
+    CHECK(as_awaited(), "bytes after calls with sizes off by %d and %d", image_off, marks_off);
+}
+
+static void check_fresh(void)
+{
+    memset(awaited_image, UNTOUCHED, ROOM);
+    memset(awaited_marks, UNTOUCHED, ROOM);
+    memset(awaited_image, 0, TUFFALEEN_IMAGE_BYTES);
+    memset(awaited_marks, 0, TUFFALEEN_MARKS_BYTES);
+    lay(awaited_image, TUFFALEEN_LOCKS_AT, (uint8_t[]){TUFFALEEN_WRITE_LOCKED, TUFFALEEN_WRITE_LOCKED}, 2);
+    start();
+    CHECK(as_awaited(), "the bytes of a fresh drive");
+}
+
+static void check_output(void)
+{
+    size_t lines, two = 2 * TUFFALEEN_ANSWER_BYTES;
+    const uint8_t *text = (const uint8_t *)"09\n09\n";
+    start();
+    uint16_t answer = ask("09");
+    CHECK(answer == TUFFALEEN_DONE && written == TUFFALEEN_ANSWER_BYTES, "Get Features: %04X, %d bytes", answer,
+          (int)written);
+    answer = tuffaleen_line(image, TUFFALEEN_IMAGE_BYTES, marks, TUFFALEEN_MARKS_BYTES, text, 2, out,
+                            TUFFALEEN_ANSWER_BYTES - 1, &written);
+    CHECK(answer == TUFFALEEN_OUTPUT_TOO_SHORT && written == 0, "an output too short: %04X", answer);
+    answer = tuffaleen_session(image, TUFFALEEN_IMAGE_BYTES, marks, TUFFALEEN_MARKS_BYTES, text, 6, out, two, &lines,
+                               &written);
+    CHECK(answer == TUFFALEEN_DONE && lines == 2 && written == two, "a session of two lines: %04X", answer);
+    answer = tuffaleen_session(image, TUFFALEEN_IMAGE_BYTES, marks, TUFFALEEN_MARKS_BYTES, text, 6, out, two - 1,
+                               &lines, &written);
+    CHECK(answer == TUFFALEEN_OUTPUT_TOO_SHORT && lines == 0 && written == 0,
+          "a session with an output too short: %04X", answer);
+}
+
+static void check_line_length(void)
+{
+    static char digits[ROOM];
+    memset(digits, '0', ROOM);
+    start();
+    uint16_t answer = ask_text(digits, TUFFALEEN_LINE_BYTES);
+    CHECK(answer == TUFFALEEN_UNKNOWN_KIND, "the longest line: %04X", answer);
+    answer = ask_text(digits, TUFFALEEN_LINE_BYTES + 2);
+    CHECK(answer == TUFFALEEN_NOT_A_FRAME_LINE, "two digits above the longest line: %04X", answer);
+
+    const char *longest = "04010000" UID_16 UID_16 KEY_1;
+    CHECK(strlen(longest) == TUFFALEEN_LINE_BYTES, "the longest frame has %d digits", (int)strlen(longest));
+    manage(1, 1);
+    ask("03010000" UID_16 KEY_1);
+    answer = ask(longest);
+    CHECK(answer == TUFFALEEN_DONE, "the longest frame: %04X", answer);
+}
+
+static void check_counts(void)
+{
+    for (int ns = 1; ns <= 4; ns++) {
+        start();
+        await_as_now();
+        manage(ns, 7 + ns);
+        lay(awaited_image, TUFFALEEN_COUNTS_AT + ns - 1, (uint8_t[]){7 + ns}, 1);
+        CHECK(as_awaited(), "the tag count of namespace %d", ns);
+    }
+}
+
+static void check_lock_behaviour(int partition, int field, const char *how)
+{
+    uint16_t answer = ask_frame((uint8_t[]){0x0A, partition}, 2);
+    CHECK(answer == (field == 1 ? TUFFALEEN_DONE : TUFFALEEN_BOOT_WRITE_LOCKED),
+          "boot write to partition %d, lock %d %s: %04X", partition, field, how, answer);
+    answer = ask_frame((uint8_t[]){0x08, 1 << 3 * partition, 0, 0, 0}, 5);
+    CHECK(answer == (field == 3 ? TUFFALEEN_LOCK_NOT_CHANGEABLE : TUFFALEEN_DONE),
+          "unlocking partition %d, lock %d %s: %04X", partition, field, how, answer);
+}
+
+/* `field` is what Dword 11 asks for, `state` what the header calls it. */
+static void check_lock(int partition, int field, uint8_t state)
+{
+    start();
+    await_as_now();
+    uint16_t answer = ask_frame((uint8_t[]){0x08, field << 3 * partition, 0, 0, 0}, 5);
+    lay(awaited_image, TUFFALEEN_LOCKS_AT + partition, &state, 1);
+    CHECK(answer == TUFFALEEN_DONE && as_awaited(), "the lock of partition %d, set to %d: %04X", partition, field,
+          answer);
+    check_lock_behaviour(partition, field, "set");
+    start();
+    lay(image, TUFFALEEN_LOCKS_AT + partition, &state, 1);
+    check_lock_behaviour(partition, field, "laid in the image");
+}
+
+static void check_locks(void)
+{
+    for (int partition = 0; partition < 2; partition++) {
+        check_lock(partition, 1, TUFFALEEN_WRITE_UNLOCKED);
+        check_lock(partition, 2, TUFFALEEN_WRITE_LOCKED);
+        check_lock(partition, 3, TUFFALEEN_WRITE_LOCKED_UNTIL_POWER_CYCLE);
+    }
+}
+
+static int check_slots(void)
+{
+    int seen = 0;
+    for (int ns = 1; ns <= 4; ns++) {
+        start();
+        manage(ns, 32);
+        for (int tag = 0; tag < 32; tag++) {
+            uint8_t slot[49];
+            await_as_now();
+            load(ns, tag, slot);
+            lay(awaited_image, TUFFALEEN_SLOT_AT(ns, tag), slot, sizeof slot);
+            CHECK(as_awaited(), "the slot of namespace %d, tag %d", ns, tag);
+            seen++;
+        }
+    }
+    CHECK(TUFFALEEN_SLOT_AT(1, 0) == TUFFALEEN_SLOTS_AT, "the first slot is not at SLOTS_AT");
+    CHECK(TUFFALEEN_SLOT_AT(5, 0) == TUFFALEEN_IMAGE_BYTES, "the image does not end with its last slot");
+    CHECK(TUFFALEEN_SLOT_BYTES == 49, "a slot has %d bytes", TUFFALEEN_SLOT_BYTES);
+    return seen;
+}
+
+static void check_cleared_slots(void)
+{
+    for (int ns = 1; ns <= 4; ns++) {
+        uint8_t slot[49];
+        start();
+        manage(ns, 32);
+        await_as_now();
+        for (int tag = 0; tag < 32; tag++)
+            load(ns, tag, slot);
+        for (int tag = 0; tag < 32; tag++)
+            ask_frame((uint8_t[]){0x05, ns, tag, 0}, 4);
+        CHECK(as_awaited(), "the emptied slots of namespace %d", ns);
+    }
+}
+
+static void check_mark(int ns, int block, const uint8_t slot[49])
+{
+    uint8_t mark[9] = {slot[0]};
+    uint8_t frame[65] = {0x07, 0x01};
+    frame[5] = ns;
+    frame[41] = block;
+    frame[51] = 1;
+    frame[53] = slot[0] - 1;
+    memcpy(mark + 1, slot + 1, 8);
+    await_as_now();
+    uint16_t answer = ask_frame(frame, sizeof frame);
+    lay(awaited_marks, TUFFALEEN_MARK_AT(ns, block), mark, sizeof mark);
+    CHECK(answer == TUFFALEEN_DONE && as_awaited(), "the mark of namespace %d, block %d: %04X", ns, block, answer);
+}
+
+static int check_marks(void)
+{
+    int seen = 0;
+    for (int ns = 1; ns <= 4; ns++) {
+        uint8_t slots[16][49];
+        start();
+        manage(ns, 16);
+        for (int tag = 0; tag < 16; tag++)
+            load(ns, tag, slots[tag]);
+        for (int block = 0; block < 256; block++) {
+            check_mark(ns, block, slots[block % 16]);
+            seen++;
+        }
+    }
+    CHECK(TUFFALEEN_MARK_AT(5, 0) == TUFFALEEN_MARKS_BYTES, "the store does not end with its last mark");
+    CHECK(TUFFALEEN_MARK_BYTES == 9, "a mark has %d bytes", TUFFALEEN_MARK_BYTES);
+    return seen;
+}
+
+/* One byte laid in an image of 32 and 31 tags, with slot 0 of namespace 1 loaded and all others empty. */
+static const struct { size_t at; uint8_t byte; uint16_t answer; } laid[] = {
+    {TUFFALEEN_COUNTS_AT + 0, 33, TUFFALEEN_UNSOUND_STATE},
+    {TUFFALEEN_COUNTS_AT + 0, 0, TUFFALEEN_UNSOUND_STATE},
+    {TUFFALEEN_COUNTS_AT + 1, 32, TUFFALEEN_DONE},
+    {TUFFALEEN_COUNTS_AT + 2, 1, TUFFALEEN_DONE},
+    {TUFFALEEN_COUNTS_AT + 3, 2, TUFFALEEN_UNSOUND_STATE},
+    {TUFFALEEN_LOCKS_AT + 0, 0, TUFFALEEN_UNSOUND_STATE},
+    {TUFFALEEN_LOCKS_AT + 1, 4, TUFFALEEN_UNSOUND_STATE},
+    {TUFFALEEN_SLOT_AT(1, 0), 16, TUFFALEEN_DONE},
+    {TUFFALEEN_SLOT_AT(1, 0), 17, TUFFALEEN_UNSOUND_STATE},
+    {TUFFALEEN_SLOT_AT(1, 0) + 1, 1, TUFFALEEN_DONE},
+    {TUFFALEEN_SLOT_AT(1, 0) + 2, 1, TUFFALEEN_UNSOUND_STATE},
+    {TUFFALEEN_SLOT_AT(1, 1) + 48, 1, TUFFALEEN_UNSOUND_STATE},
+    {TUFFALEEN_SLOT_AT(2, 30), 1, TUFFALEEN_DONE},
+    {TUFFALEEN_SLOT_AT(2, 31), 1, TUFFALEEN_UNSOUND_STATE},
+};
+
+static void check_soundness(void)
+{
+    for (size_t i = 0; i < sizeof laid / sizeof *laid; i++) {
+        uint8_t slot[49];
+        start();
+        manage(1, 32);
+        manage(2, 31);
+        load(1, 0, slot);
+        lay(image, laid[i].at, &laid[i].byte, 1);
+        uint16_t answer = ask("0B00");
+        CHECK(answer == laid[i].answer, "%d laid at byte %d of the image: %04X", laid[i].byte, (int)laid[i].at,
+              answer);
+    }
+}
+
+/* Asked before each line below. Of three tags in namespace 1 two are loaded; blocks 0 to 9 are written under AA. */
+static const char *const before[] = {
+    "010103", "010220", "0301000001AA" KEY_1, "0301010001BB" KEY_2, IO("01", "00", "09", "00"), "0803000000",
+};
+
+#define OF(name) #name, name
+
+static const struct { const char *name; uint16_t number; const char *digits, *line; } answers[] = {
+    {OF(TUFFALEEN_DONE), "0000", "0B00"},
+    {OF(TUFFALEEN_INVALID_OPCODE), "0001", IO("03", "00", "00", "00")},
+    {OF(TUFFALEEN_INVALID_FIELD), "0002", "0A02"},
+    {OF(TUFFALEEN_INVALID_NAMESPACE), "000B", "0205"},
+    {OF(TUFFALEEN_INVALID_KEY_TAG), "0025", "05010300"},
+    {OF(TUFFALEEN_WRONG_KEY), "0028", IO("02", "09", "00", "01")},
+    {OF(TUFFALEEN_BLOCK_RANGE), "0080", IO("02", "FF", "01", "00")},
+    {OF(TUFFALEEN_LOCK_NOT_CHANGEABLE), "010E", "0801000000"},
+    {OF(TUFFALEEN_BOOT_WRITE_LOCKED), "011E", "0A00"},
+    {OF(TUFFALEEN_NOT_A_FRAME_LINE), "0701", "0b00"},
+    {OF(TUFFALEEN_UNKNOWN_KIND), "0702", "0C"},
+    {OF(TUFFALEEN_WRONG_FRAME_LENGTH), "0703", "0900"},
+    {OF(TUFFALEEN_KEY_UID_LENGTH), "0704", "0301020000"},
+    {OF(TUFFALEEN_ALREADY_MANAGED), "0705", "010101"},
+    {OF(TUFFALEEN_NOT_MANAGED), "0706", "0603"},
+    {OF(TUFFALEEN_TAG_COUNT), "0707", "010300"},
+    {OF(TUFFALEEN_POOL_TOO_SMALL), "0708", "010320"},
+    {OF(TUFFALEEN_SLOT_OCCUPIED), "0709", "0301000001BB" KEY_2},
+    {OF(TUFFALEEN_SLOT_EMPTY), "070A", "05010200"},
+    {OF(TUFFALEEN_OLD_KEY_UID), "070B", "0401000001BB01CC" KEY_1},
+    {OF(TUFFALEEN_OTHER_KEY), "070C", "0301020001AA" KEY_2},
+};
+
+/* The answers that refuse a call: for them the buffers are of other lengths, and no digits are written. */
+static const struct { const char *name; uint16_t number, literal; int image_off, marks_off, out_off; } calls[] = {
+    {OF(TUFFALEEN_STORE_LENGTH), 0x070D, -1, -1, 0},
+    {OF(TUFFALEEN_UNSOUND_STATE), 0x070E, -1, 0, 0},
+    {OF(TUFFALEEN_OUTPUT_TOO_SHORT), 0x070F, -1, -1, -1},
+};
+
+static int check_line_answers(void)
+{
+    int seen = 0;
+    for (size_t i = 0; i < sizeof answers / sizeof *answers; i++) {
+        start();
+        for (size_t k = 0; k < sizeof before / sizeof *before; k++)
+            CHECK(ask(before[k]) == TUFFALEEN_DONE, "line %d before the answers", (int)k);
+        uint16_t answer = ask(answers[i].line);
+        CHECK(answer == answers[i].number, "%s is %04X, the library answers %04X", answers[i].name, answers[i].number,
+              answer);
+        CHECK(written == 5 && memcmp(out, answers[i].digits, 4) == 0 && out[4] == '\n',
+              "%s is written as %.4s, not %s", answers[i].name, (const char *)out, answers[i].digits);
+        seen += i == 0 || strcmp(answers[i - 1].digits, answers[i].digits) < 0;
+    }
+    return seen;
+}
+
+static int check_call_answers(void)
+{
+    int seen = 0;
+    for (size_t i = 0; i < sizeof calls / sizeof *calls; i++) {
+        start();
+        uint16_t answer = tuffaleen_line(image, TUFFALEEN_IMAGE_BYTES + calls[i].image_off,
+                                         marks, TUFFALEEN_MARKS_BYTES + calls[i].marks_off, (const uint8_t *)"09", 2,
+                                         out, TUFFALEEN_ANSWER_BYTES + calls[i].out_off, &written);
+        CHECK(answer == calls[i].number, "%s is %04X, the library answers %04X", calls[i].name, calls[i].number,
+              answer);
+        CHECK(answer == calls[i].literal && written == 0, "%s is answered %04X with %d bytes", calls[i].name, answer,
+              (int)written);
+        seen += i == 0 || calls[i - 1].literal < calls[i].literal;
+    }
+    return seen;
+}
+
+/* Whoever changes the layout comes by here, and counts the version up. */
+static void check_version(void)
+{
+    int as_in_1 = TUFFALEEN_IMAGE_BYTES == 6278 && TUFFALEEN_COUNTS_AT == 0 && TUFFALEEN_LOCKS_AT == 4 &&
+                  TUFFALEEN_SLOTS_AT == 6 && TUFFALEEN_SLOT_BYTES == 49 && TUFFALEEN_MARKS_BYTES == 9216 &&
+                  TUFFALEEN_MARK_BYTES == 9;
+    CHECK(as_in_1 == (TUFFALEEN_LAYOUT_VERSION == 1), "layout version %d", TUFFALEEN_LAYOUT_VERSION);
+}
+
+int main(void)
+{
+    int slots = 0, written_marks = 0, numbers = 0;
+    check_fresh();
+    check_buffer(0, 0, TUFFALEEN_DONE);
+    for (int off = -1; off <= 1; off += 2) {
+        check_buffer(off, 0, TUFFALEEN_UNSOUND_STATE);
+        check_buffer(0, off, TUFFALEEN_STORE_LENGTH);
+    }
+    check_output();
+    check_line_length();
+    if (failures == 0) {
+        check_counts();
+        check_locks();
+        slots = check_slots();
+        check_cleared_slots();
+        written_marks = check_marks();
+        check_soundness();
+        numbers = check_line_answers() + check_call_answers();
+    }
+    check_version();
+    if (failures == 0)
+        printf("layout: %d answers, %d slots, %d marks as the header says\n", numbers, slots, written_marks);
+    return failures != 0;
+}
