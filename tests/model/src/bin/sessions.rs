@@ -1,24 +1,32 @@
-//! Writes `tests/sessions`: each session with the answers it must get.
-//! In `tests/model`: `cargo run --release --offline --bin sessions`.
+//! Sessions for the program, each with what it must print. In `tests/model`:
 //!
-//! The answers stand beside the lines, worked out by hand from the paper, and the model is held
-//! against them; a difference ends the run with nothing written. Only `bulk` asks the model.
+//! - `cargo run --release --offline --bin sessions` writes `tests/sessions` anew: those that are kept as files.
+//! - `.. --bin sessions -- FOLDER` writes all others to `FOLDER/in` and `FOLDER/out`: the rest of those with answers
+//!   worked out by hand, which stand beside the lines, and those from seeds, which the model answers.
+//! - `.. --bin sessions -- FOLDER --broken RULE` writes what those from seeds would print with a wrong rule.
+//!
+//! `cargo test` holds the model against the answers by hand, and the files against what is written here.
 
-use std::path::Path;
+use std::path::{Path, PathBuf};
 use std::process::ExitCode;
+use std::{env, fs, io as disk};
 
 #[path = "sessions/boot.rs"]
 mod boot;
-#[path = "sessions/bulk.rs"]
-mod bulk;
+#[path = "sessions/broken.rs"]
+mod broken;
 #[path = "sessions/clear.rs"]
 mod clear;
+#[path = "sessions/dice.rs"]
+mod dice;
 #[path = "sessions/folder.rs"]
 mod folder;
 #[path = "sessions/forms.rs"]
 mod forms;
 #[path = "sessions/io.rs"]
 mod io;
+#[path = "sessions/kept.rs"]
+mod kept;
 #[path = "sessions/lengths.rs"]
 mod lengths;
 #[path = "sessions/load.rs"]
@@ -33,9 +41,40 @@ mod order;
 mod paper;
 #[path = "sessions/replace.rs"]
 mod replace;
+#[path = "sessions/seeds.rs"]
+mod seeds;
+#[path = "sessions/tally.rs"]
+mod tally;
+#[path = "sessions/walk.rs"]
+mod walk;
+
+use broken::Rule;
+use folder::{printed_for, Folder};
+use tally::Tally;
 
 fn main() -> ExitCode {
-    let mut folder = folder::Folder::default();
+    let words: Vec<String> = env::args().skip(1).collect();
+    let words: Vec<&str> = words.iter().map(String::as_str).collect();
+    let done = match words[..] {
+        [] => write_files(&by_hand()),
+        [folder] => write_others(Path::new(folder)),
+        [folder, "--broken", rule] => match Rule::named(rule) {
+            Some(rule) => write_broken(Path::new(folder), rule),
+            None => Err(disk::Error::other(format!("there is no rule {rule}"))),
+        },
+        _ => Err(disk::Error::other("usage: sessions [FOLDER [--broken RULE]]")),
+    };
+    match done {
+        Ok(()) => ExitCode::SUCCESS,
+        Err(error) => {
+            eprintln!("sessions: {error}");
+            ExitCode::FAILURE
+        }
+    }
+}
+
+fn by_hand() -> Folder {
+    let mut folder = Folder::default();
     paper::add(&mut folder);
     forms::add(&mut folder);
     lengths::add(&mut folder);
@@ -47,18 +86,85 @@ fn main() -> ExitCode {
     marks::add(&mut folder);
     boot::add(&mut folder);
     order::add(&mut folder);
-    bulk::add(&mut folder);
+    folder
+}
 
+fn files_folder() -> PathBuf {
+    Path::new(env!("CARGO_MANIFEST_DIR")).join("../sessions")
+}
+
+/// Writes the files anew, whatever was there; nothing if the model answers otherwise than by hand.
+fn write_files(folder: &Folder) -> disk::Result<()> {
     let differences = folder.differences();
     if !differences.is_empty() {
-        eprintln!("the model differs, nothing written:\n{}", differences.join("\n"));
-        return ExitCode::FAILURE;
+        return Err(disk::Error::other(format!("nothing written:\n{}", differences.join("\n"))));
     }
-    let path = Path::new(env!("CARGO_MANIFEST_DIR")).join("../sessions");
-    if let Err(error) = folder.write(&path) {
-        eprintln!("{}: {error}", path.display());
-        return ExitCode::FAILURE;
+    let files = folder.files();
+    if files_folder().exists() {
+        fs::remove_dir_all(files_folder())?;
     }
-    print!("{}", folder.summary());
-    ExitCode::SUCCESS
+    for (path, bytes) in &files {
+        let path = files_folder().join(path);
+        fs::create_dir_all(path.parent().expect("a family's folder"))?;
+        fs::write(path, bytes)?;
+    }
+    println!("sessions: {} kept as files", files.len() / 2);
+    Ok(())
+}
+
+fn write_others(folder: &Path) -> disk::Result<()> {
+    fs::create_dir_all(folder.join("in"))?;
+    fs::create_dir_all(folder.join("out"))?;
+    let others = by_hand().write_others(folder)?;
+    let mut tally = Tally::default();
+    for seed in seeds::SEEDS {
+        let (name, text) = (format!("seed-{seed:04}"), seeds::session(seed));
+        let printed = printed_for(&text);
+        tally.add(&printed);
+        fs::write(folder.join("in").join(&name), text)?;
+        fs::write(folder.join("out").join(&name), printed)?;
+    }
+    println!(
+        "seeds: {others} sessions answered by hand, {} from seeds, with these answers:",
+        seeds::SEEDS.end()
+    );
+    println!("seeds: {}", tally.table());
+    match tally.rare() {
+        rare if rare.is_empty() => Ok(()),
+        rare => Err(disk::Error::other(format!("too seldom an answer: {}", rare.join(", ")))),
+    }
+}
+
+fn write_broken(folder: &Path, rule: Rule) -> disk::Result<()> {
+    fs::create_dir_all(folder.join("out"))?;
+    for seed in seeds::SEEDS {
+        let printed = rule.printed_for(&seeds::session(seed));
+        fs::write(folder.join("out").join(format!("seed-{seed:04}")), printed)?;
+    }
+    Ok(())
+}
+
+#[cfg(test)]
+mod tests {
+    use super::*;
+
+    #[test]
+    fn the_model_answers_as_by_hand() {
+        let differences = by_hand().differences();
+        assert!(differences.is_empty(), "{}", differences.join("\n"));
+    }
+
+    #[test]
+    fn the_files_are_those_written_here() {
+        let folder = by_hand();
+        let mut found = 0;
+        for family in fs::read_dir(files_folder()).unwrap() {
+            found += fs::read_dir(family.unwrap().path()).unwrap().count();
+        }
+        let files = folder.files();
+        assert_eq!(found, files.len(), "files in tests/sessions");
+        for (path, bytes) in files {
+            assert!(fs::read(files_folder().join(&path)).unwrap() == bytes, "{}", path.display());
+        }
+    }
 }

@@ -1,12 +1,13 @@
-//! The sessions as they are gathered, held against the model and written.
+//! The sessions with answers worked out by hand, as they are gathered, held against the model and written.
 
 use std::collections::{BTreeMap, BTreeSet};
-use std::fmt::Write;
-use std::path::Path;
+use std::path::{Path, PathBuf};
 use std::{fs, io};
 
 use model::numbers::{INPUT, OUTPUT, STORE};
 use model::Drive;
+
+use crate::kept::{family, KEPT};
 
 /// Lines, each with its answer beside it.
 pub type Lines = Vec<(String, &'static str)>;
@@ -53,48 +54,35 @@ impl Folder {
         self.sessions.push(Session { name, input, output });
     }
 
-    /// A session whose answers are the model's.
-    pub fn by_model(&mut self, name: impl Into<String>, input: impl Into<Vec<u8>>) {
-        let input = input.into();
-        let output = printed_for(&input);
-        self.raw(name, input, output);
-    }
-
+    /// Where the model answers otherwise than by hand, and names in `KEPT` that no session has.
     pub fn differences(&self) -> Vec<String> {
-        self.sessions.iter().filter_map(Session::difference).collect()
+        let kept = KEPT.iter().flat_map(|(_, names)| names.iter());
+        let unknown = kept.filter(|&&name| !self.names.contains(name));
+        let unknown = unknown.map(|name| format!("there is no session {name} to keep"));
+        self.sessions.iter().filter_map(Session::difference).chain(unknown).collect()
     }
 
-    /// Writes the folder anew; sessions of an earlier run go.
-    pub fn write(&self, folder: &Path) -> io::Result<()> {
-        fs::create_dir_all(folder)?;
-        for entry in fs::read_dir(folder)? {
-            let path = entry?.path();
-            if path.extension().is_some_and(|kind| kind == "in" || kind == "out") {
-                fs::remove_file(path)?;
+    /// The files of `tests/sessions`: a path below it, and what the file holds.
+    pub fn files(&self) -> BTreeMap<PathBuf, &[u8]> {
+        let mut files = BTreeMap::new();
+        for session in &self.sessions {
+            if let Some(family) = family(&session.name) {
+                let path = |kind| Path::new(family).join(format!("{}.{kind}", session.name));
+                files.insert(path("in"), session.input.as_slice());
+                files.insert(path("out"), session.output.as_slice());
             }
         }
-        for session in &self.sessions {
-            fs::write(folder.join(format!("{}.in", session.name)), &session.input)?;
-            fs::write(folder.join(format!("{}.out", session.name)), &session.output)?;
-        }
-        Ok(())
+        files
     }
 
-    /// How many sessions and lines there are, and how often each number is the answer.
-    pub fn summary(&self) -> String {
-        let mut answers = BTreeMap::new();
-        for session in &self.sessions {
-            let output = String::from_utf8_lossy(&session.output);
-            for answer in output.lines() {
-                *answers.entry(answer[..4].to_string()).or_insert(0) += 1;
-            }
+    /// Writes the sessions that are no files: `in/NAME` and `out/NAME`.
+    pub fn write_others(&self, folder: &Path) -> io::Result<usize> {
+        let others = || self.sessions.iter().filter(|session| family(&session.name).is_none());
+        for session in others() {
+            fs::write(folder.join("in").join(&session.name), &session.input)?;
+            fs::write(folder.join("out").join(&session.name), &session.output)?;
         }
-        let lines: usize = answers.values().sum();
-        let mut text = format!("{} sessions, {lines} answers\n", self.sessions.len());
-        for (answer, times) in answers {
-            writeln!(text, "{answer} {times:5}").unwrap();
-        }
-        text
+        Ok(others().count())
     }
 }
 
@@ -117,7 +105,8 @@ impl Session {
     }
 }
 
-fn printed_for(text: &[u8]) -> Vec<u8> {
+/// What the model prints.
+pub fn printed_for(text: &[u8]) -> Vec<u8> {
     if text.len() > INPUT {
         return b"070F\n".to_vec();
     }

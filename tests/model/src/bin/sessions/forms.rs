@@ -20,6 +20,7 @@ pub fn add(folder: &mut Folder) {
     input_of_one_line(folder);
     input_of_frames(folder);
     input_far_too_long(folder);
+    input_of_every_byte(folder);
 }
 
 fn few_digits(folder: &mut Folder) {
@@ -238,4 +239,10 @@ fn input_far_too_long(folder: &mut Folder) {
     }
     let text = format!("{}\n{}", manage(1, 1), "09\n".repeat(4096));
     folder.raw("input-12295-of-good-frames", text, "070F\n");
+}
+
+fn input_of_every_byte(folder: &mut Folder) {
+    let every: Vec<u8> = (0..=255).collect();
+    folder.raw("noise-every-byte-once", every.clone(), "0701\n0701\n");
+    folder.raw("noise-every-byte-16-times", every.repeat(16), "0701\n".repeat(17));
 }

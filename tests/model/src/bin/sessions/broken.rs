@@ -1,0 +1,151 @@
+//! Wrong rules for the model, most of them misreadings of the paper: sessions whose answers stay the same under one
+//! of them would not notice that rule broken in the proved program.
+
+use model::lines::{clear_one, set_features};
+use model::numbers::{BLOCKS, INPUT, KEYS, MARK, ROOM, SLOT, STORE, TAGS};
+use model::{status, Drive};
+
+#[derive(Clone, Copy, PartialEq, Eq)]
+pub enum Rule {
+    /// Small letters are digits.
+    SmallLetters,
+    /// What follows the last line feed is no line.
+    LastLine,
+    /// One byte more than 4,096 is read.
+    Input,
+    /// A bad tag count is seen before a managed namespace.
+    ManageOrder,
+    /// On a replace the slot whose key goes does not count for 07 0C.
+    OwnSlot,
+    /// Only the slots of the same namespace count for 07 0C.
+    OtherRooms,
+    /// Clearing a key clears the namespace's marks.
+    ClearMarks,
+    /// A release leaves the marks.
+    ReleaseMarks,
+    /// A write is compared with old marks.
+    WriteCheck,
+    /// A power cycle leaves the keys.
+    PowerCycle,
+    /// A controller level reset locks the boot partitions.
+    ControllerReset,
+    /// Partition 0 is set before partition 1 is judged.
+    Partition,
+}
+
+const NAMES: [(&str, Rule); 12] = [
+    ("small-letters", Rule::SmallLetters),
+    ("last-line", Rule::LastLine),
+    ("input", Rule::Input),
+    ("manage-order", Rule::ManageOrder),
+    ("own-slot", Rule::OwnSlot),
+    ("other-rooms", Rule::OtherRooms),
+    ("clear-marks", Rule::ClearMarks),
+    ("release-marks", Rule::ReleaseMarks),
+    ("write-check", Rule::WriteCheck),
+    ("power-cycle", Rule::PowerCycle),
+    ("controller-reset", Rule::ControllerReset),
+    ("partition", Rule::Partition),
+];
+
+impl Rule {
+    pub fn named(name: &str) -> Option<Rule> {
+        NAMES.iter().find(|(known, _)| *known == name).map(|&(_, rule)| rule)
+    }
+
+    /// What a program with this rule prints.
+    pub fn printed_for(self, text: &[u8]) -> Vec<u8> {
+        if text.len() > INPUT + usize::from(self == Rule::Input) {
+            return b"070F\n".to_vec();
+        }
+        let mut lines: Vec<&[u8]> = text.split(|&byte| byte == b'\n').collect();
+        if self == Rule::LastLine || text.is_empty() || text.ends_with(b"\n") {
+            lines.pop();
+        }
+        let mut bench = Bench { drive: Drive::fresh(), marks: [0; STORE] };
+        lines.into_iter().flat_map(|line| bench.answer(self, line)).collect()
+    }
+}
+
+struct Bench {
+    drive: Drive,
+    marks: [u8; STORE],
+}
+
+impl Bench {
+    fn line(&mut self, line: &[u8]) -> (u16, Vec<u8>) {
+        let mut out = vec![0; ROOM];
+        let (number, written) = self.drive.line(&mut self.marks, line, &mut out);
+        out.truncate(written);
+        (number, out)
+    }
+
+    /// As the model answers, but for what the wrong rule makes of it.
+    fn answer(&mut self, rule: Rule, line: &[u8]) -> Vec<u8> {
+        if rule == Rule::SmallLetters {
+            return self.line(&line.to_ascii_uppercase()).1;
+        }
+        if rule == Rule::WriteCheck && line.starts_with(b"0701") {
+            let (number, out) = self.line(&[b"0702", &line[4..]].concat());
+            if number == status::WRONG_KEY {
+                return out;
+            }
+        }
+        let (keys, marks) = (self.drive.keys, self.marks);
+        let (number, out) = self.line(line);
+        let done = number == status::DONE;
+        match (rule, line.get(..2).unwrap_or(b"")) {
+            (Rule::ManageOrder, b"01") if number == status::MANAGED && bad_count(line) => {
+                return b"0707\n".to_vec();
+            }
+            (Rule::OwnSlot, b"04") if number == status::OTHER_KEY => return self.own_slot(line),
+            (Rule::OtherRooms, _) if number == status::OTHER_KEY => return self.other_rooms(line),
+            (Rule::ClearMarks, b"05" | b"06") if done => {
+                let namespace = usize::from(byte(line, 1)) - 1;
+                self.marks[namespace * BLOCKS * MARK..][..BLOCKS * MARK].fill(0);
+            }
+            (Rule::ReleaseMarks, b"02") => self.marks = marks,
+            (Rule::PowerCycle, b"0B") => self.drive.keys = keys,
+            (Rule::ControllerReset, b"0B") if done => self.drive.locks = [2; 2],
+            (Rule::Partition, b"08") if number == status::LOCK_FIXED => {
+                self.line(set_features(u32::from(byte(line, 1) & 7)).as_bytes());
+            }
+            _ => {}
+        }
+        out
+    }
+
+    /// Clears the slot of a refused replace and loads it.
+    fn own_slot(&mut self, line: &[u8]) -> Vec<u8> {
+        let (drive, old) = (self.drive.clone(), 2 * usize::from(byte(line, 4)));
+        let tag = u16::from(byte(line, 2));
+        self.line(clear_one(byte(line, 1), tag).as_bytes());
+        let (number, out) = self.line(&[b"03", &line[2..8], &line[10 + old..]].concat());
+        if number != status::DONE {
+            self.drive = drive;
+        }
+        out
+    }
+
+    /// Answers the line again with the other namespaces' slots out of sight.
+    fn other_rooms(&mut self, line: &[u8]) -> Vec<u8> {
+        let room = (usize::from(byte(line, 1)) - 1) * TAGS * SLOT;
+        let own = room..room + TAGS * SLOT;
+        let mut keys = std::mem::replace(&mut self.drive.keys, [0; KEYS]);
+        self.drive.keys[own.clone()].copy_from_slice(&keys[own.clone()]);
+        let out = self.line(line).1;
+        keys[own.clone()].copy_from_slice(&self.drive.keys[own]);
+        self.drive.keys = keys;
+        out
+    }
+}
+
+/// Byte `at` of a line of good digits.
+fn byte(line: &[u8], at: usize) -> u8 {
+    let digit = |at: usize| (line[at] as char).to_digit(16).expect("a digit") as u8;
+    digit(2 * at) << 4 | digit(2 * at + 1)
+}
+
+fn bad_count(line: &[u8]) -> bool {
+    !(1..=TAGS).contains(&usize::from(byte(line, 2)))
+}

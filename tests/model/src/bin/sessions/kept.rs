@@ -1,0 +1,112 @@
+//! The sessions that are kept as files, for people: by family, which is a folder of `tests/sessions`.
+
+pub const KEPT: [(&str, &[&str]); 10] = [
+    (
+        "paper",
+        &[
+            "paper-worked-session",
+            "p01-tag-count-32-and-33",
+            "p02-pool-of-64",
+            "p03-block-255",
+            "p04-first-block-2-to-the-64-minus-1",
+            "p05-tag-n-minus-1-and-n",
+            "p06-one-key-uid-in-two-slots",
+            "p07-replace-with-its-own-key-uid",
+            "p08-wrong-key-after-power-cycle",
+            "p09-until-power-cycle",
+            "p10-key-uid-length-16-and-17",
+            "misread-clearing-a-key-clears-marks",
+            "misread-controller-reset-clears-keys",
+            "misread-controller-reset-locks-boot",
+            "misread-first-block-and-count-wrap",
+            "misread-one-tag-in-two-namespaces",
+            "misread-partition-0-set-before-1-is-judged",
+            "misread-partition-0-set-before-1-is-read",
+        ],
+    ),
+    (
+        "line",
+        &[
+            "line-139-to-142-digits",
+            "line-carriage-return-line-feed",
+            "line-empty-between",
+            "line-every-bad-byte-as-first-digit",
+            "line-few-digits",
+            "line-last-without-line-feed",
+            "line-lower-case",
+            "input-empty",
+            "kind-every-byte-alone",
+        ],
+    ),
+    (
+        "manage",
+        &[
+            "manage-already-managed",
+            "not-managed-every-kind",
+            "pool-is-not-returned-by-clearing",
+            "release-empties-slots-and-marks",
+        ],
+    ),
+    (
+        "load",
+        &[
+            "length-load-to-50-bytes",
+            "load-cut-at-every-digit-key-uid-1-from-1",
+            "load-every-bad-key-uid-length",
+            "load-occupied",
+            "conflict-in-every-pair-of-namespaces",
+        ],
+    ),
+    (
+        "replace",
+        &[
+            "replace-changes-the-kept-identity",
+            "replace-empty-slot",
+            "replace-old-key-uid-wrong-in-each-byte",
+            "replace-with-its-own-key-uid",
+        ],
+    ),
+    ("clear", &["clear-all-empties-one-namespace", "clear-one-tags"]),
+    ("io", &["io-block-edges-opcode-02", "io-cetypes", "io-empty-slots", "io-opcodes-00-to-1e"]),
+    (
+        "marks",
+        &[
+            "marks-hold-the-key-of-the-write",
+            "marks-identity-is-the-first-8-bytes",
+            "marks-kept-over-power-cycle",
+            "marks-range-edges",
+        ],
+    ),
+    (
+        "boot",
+        &[
+            "boot-all-low-values-from-locked-locked",
+            "boot-byte-order",
+            "boot-high-bits-from-locked-locked",
+            "boot-write-every-other-partition-locked",
+            "boot-write-from-every-pair",
+            "reset-bad-byte-keeps-keys",
+            "reset-every-other-byte",
+        ],
+    ),
+    (
+        "order",
+        &[
+            "order-000b-before-0706",
+            "order-0701-before-0702",
+            "order-0702-before-length",
+            "order-boot-write-0002-before-011e",
+            "order-io-0001-before-000b-and-0080",
+            "order-io-0025-before-0028",
+            "order-manage-0707-before-0708",
+            "order-replace-0025-before-070a-070b-070c",
+            "order-replace-070a-before-070b-and-070c",
+            "order-replace-lengths",
+        ],
+    ),
+];
+
+/// The family of a session that is a file.
+pub fn family(name: &str) -> Option<&'static str> {
+    KEPT.iter().find(|(_, names)| names.contains(&name)).map(|&(family, _)| family)
+}

@@ -1,0 +1,59 @@
+//! How often each number is the answer in the sessions from seeds.
+
+use std::collections::BTreeMap;
+
+use model::status::*;
+
+/// Fewer of one than this, and the sessions say too little of it.
+const LEAST: usize = 20;
+
+/// All that the program can print but 00 00.
+const REFUSALS: [u16; 21] = [
+    OPCODE,
+    FIELD,
+    NAMESPACE,
+    TAG,
+    WRONG_KEY,
+    BLOCK_RANGE,
+    LOCK_FIXED,
+    WRITE_LOCKED,
+    LINE,
+    KIND,
+    LENGTH,
+    KEY_UID_LENGTH,
+    MANAGED,
+    NOT_MANAGED,
+    TAG_COUNT,
+    POOL,
+    OCCUPIED,
+    EMPTY,
+    OLD_KEY_UID,
+    OTHER_KEY,
+    OUTPUT,
+];
+
+#[derive(Default)]
+pub struct Tally(BTreeMap<String, usize>);
+
+impl Tally {
+    pub fn add(&mut self, printed: &[u8]) {
+        for answer in String::from_utf8_lossy(printed).lines() {
+            *self.0.entry(answer[..4].to_string()).or_default() += 1;
+        }
+    }
+
+    pub fn table(&self) -> String {
+        let of = |(number, times): (&String, &usize)| format!("{number} {times}");
+        self.0.iter().map(of).collect::<Vec<_>>().join(", ")
+    }
+
+    /// The refusals that came too seldom.
+    pub fn rare(&self) -> Vec<String> {
+        let times = |number: &String| self.0.get(number).copied().unwrap_or(0);
+        REFUSALS
+            .map(|number| format!("{number:04X}"))
+            .into_iter()
+            .filter(|n| times(n) < LEAST)
+            .collect()
+    }
+}
