@@ -47,7 +47,12 @@ fn lend_line(
 }
 
 // A call of answer_line: number, bytes written, whether state with cache, store and the rest of the output stayed.
-pub fn line(setting: Setting, keys: &mut Cache, marks: &mut Marks, frame: &[u8]) -> Registers {
+pub(crate) fn line(
+    setting: Setting,
+    keys: &mut Cache,
+    marks: &mut Marks,
+    frame: &[u8],
+) -> Registers {
     let kept_keys = *keys;
     let kept_marks = *marks;
     let mut out = [b'.'; ROOM];
@@ -77,7 +82,7 @@ fn all_zero(marks: &[u8], store: usize) -> bool {
 }
 
 // A call of start: number, whether the state is fresh, whether the store stayed, and whether the lent part is zeros.
-pub fn start(keys: &mut Cache, marks: &mut Marks, store: usize, cache: usize) -> Registers {
+pub(crate) fn start(keys: &mut Cache, marks: &mut Marks, store: usize, cache: usize) -> Registers {
     *keys = [7u8; CACHE_SIZE];
     *marks = [7u8; MOST];
     let kept = *marks;

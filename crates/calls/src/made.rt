@@ -24,7 +24,7 @@ fn counted(counts: [u8; NAMESPACES]) -> Registers {
     Registers { counts, locks }
 }
 
-pub fn fresh() -> Registers {
+pub(crate) fn fresh() -> Registers {
     counted([0; NAMESPACES])
 }
 
@@ -50,7 +50,7 @@ fn fill_slot(keys: &mut Cache, place: usize, first: u8, other: usize) {
 }
 
 // The drive as it is, with a store and an output that it takes.
-pub fn usual(registers: Registers) -> Setting {
+pub(crate) fn usual(registers: Registers) -> Setting {
     Setting {
         registers,
         cache: CACHE_SIZE,
@@ -60,7 +60,7 @@ pub fn usual(registers: Registers) -> Setting {
 }
 
 // The drive that an input line's numbers ask for; their order is in main.rt.
-pub fn setting(keys: &mut Cache, marks: &mut Marks, n: [usize; NUMBERS]) -> Setting {
+pub(crate) fn setting(keys: &mut Cache, marks: &mut Marks, n: [usize; NUMBERS]) -> Setting {
     *keys = [0u8; CACHE_SIZE];
     *marks = [7u8; MOST];
     fill_slot(keys, n[6], byte(n[7]), n[8]);

@@ -5,7 +5,7 @@ use rules::Answer;
 use rules::NAMESPACES;
 use rules::Registers;
 
-pub fn text(s: &[u8]) {
+pub(crate) fn text(s: &[u8]) {
     io::write_all(STDOUT_FILENO, s);
 }
 
@@ -19,7 +19,7 @@ fn digit(n: u16) -> u8 {
 }
 
 // The answer's number, as four digits.
-pub fn number(answer: Answer) {
+pub(crate) fn number(answer: Answer) {
     let n = digits::number(answer);
     let four = [
         digit(n / BASE / BASE / BASE),
@@ -43,7 +43,7 @@ fn written(out: &[u8], last: usize) {
 }
 
 // The answer's number, how many bytes were written, and which.
-pub fn answer(answer: Answer, out: &[u8], bytes: usize) {
+pub(crate) fn answer(answer: Answer, out: &[u8], bytes: usize) {
     number(answer);
     text(b" ");
     io::print_decimal(STDOUT_FILENO, bytes as u64);
@@ -53,13 +53,13 @@ pub fn answer(answer: Answer, out: &[u8], bytes: usize) {
     written(out, bytes - 1);
 }
 
-pub fn where_so(what: &[u8], so: bool) {
+pub(crate) fn where_so(what: &[u8], so: bool) {
     if so {
         text(what);
     }
 }
 
-pub fn same_or_changed(what: &[u8], same: bool) {
+pub(crate) fn same_or_changed(what: &[u8], same: bool) {
     text(what);
     if same {
         text(b" same");
@@ -79,7 +79,7 @@ fn same_from(a: &[u8], b: &[u8], from: usize) -> bool {
 }
 
 // Whether the output past the bytes written still has the dots that it had.
-pub fn rest(out: &[u8], bytes: usize) {
+pub(crate) fn rest(out: &[u8], bytes: usize) {
     let dots = [b'.'; ROOM];
     let same = same_from(out, &dots, bytes);
     same_or_changed(b" rest", same);
@@ -87,7 +87,7 @@ pub fn rest(out: &[u8], bytes: usize) {
 }
 
 // The small state as bytes: the counts, then the locks.
-pub fn registers(registers: Registers) -> [u8; NAMESPACES + 2] {
+pub(crate) fn registers(registers: Registers) -> [u8; NAMESPACES + 2] {
     let counts = registers.counts;
     let locks = registers.locks;
     let zero = locks.partition0;

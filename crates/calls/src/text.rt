@@ -7,7 +7,7 @@ use std::num::wrapping_sub_u8;
 // As many numbers as an input line may have: two lengths, the tag counts, three for a slot, and one for the cache.
 pub const NUMBERS: usize = 2 + NAMESPACES + 3 + 1;
 
-pub fn least(a: usize, b: usize) -> usize
+pub(crate) fn least(a: usize, b: usize) -> usize
     ensures { λ r. ⌜ r ≤ b ⌝ }
 {
     if a < b {
@@ -47,7 +47,7 @@ fn with_digit(n: usize, digit: u8) -> usize {
 }
 
 // The first numbers of the text. A byte that is no digit ends a number.
-pub fn numbers(text: &[u8]) -> [usize; NUMBERS] {
+pub(crate) fn numbers(text: &[u8]) -> [usize; NUMBERS] {
     let mut all = [0usize; NUMBERS];
     let mut k = 0;
     let mut i = 0;

@@ -15,7 +15,7 @@ use rules::Answer;
 use rules::Refusal;
 use rules::Registers;
 
-// The drive lends its pair of locks to the routine that changes them where they lie.
+// The pair goes by value, as all registers do; `locks::set_features` lends its own copy to the routine that changes it where it lies.
 pub(crate) fn set_features(registers: Registers, dword11: u32) -> Answered
     ensures { λ r. ⌜ ((keys marks : List ℕ) → outcome r keys marks ≡ obey (state registers keys marks) (setFeatures (state registers keys marks) dword11)) ⌝ }
 {
@@ -43,7 +43,7 @@ pub(crate) fn boot_write(registers: Registers, partition: u8) -> Answered
     Answered { answer, registers }
 }
 
-// 00 controller level, which changes nothing; 01 power cycle.
+// 00 controller level, which changes nothing; 01 power cycle, after which the pair is the same whatever it was.
 pub(crate) fn reset(registers: Registers, keys: &mut [u8], level: u8) -> Answered
     requires { ⌜ length (now keys) ≡ cacheSize ⌝ }
     ensures { λ r. ⌜ ((marks : List ℕ) → outcome r (now (keys .exit)) marks

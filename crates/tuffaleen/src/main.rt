@@ -1,4 +1,5 @@
 // Answers a session: standard input to standard output.
+use libc::STDERR_FILENO;
 use libc::STDIN_FILENO;
 use libc::STDOUT_FILENO;
 use rules::ANSWER_MOST;
@@ -12,11 +13,31 @@ const INPUT: usize = 4096;
 
 const OUTPUT: usize = INPUT * ANSWER_MOST;
 
+fn print(answers: &[u8]) {
+    if !io::write_all(STDOUT_FILENO, answers) {
+        io::write_all(
+            STDERR_FILENO,
+            b"tuffaleen: a write failed, so answers are missing\n",
+        );
+    }
+}
+
+// Fewer bytes than asked for are the input's end or a read that failed. One more read tells which.
+fn tell_failed_read() {
+    let mut more = [0u8; 1];
+    if libc::read(STDIN_FILENO, &mut more) < 0 {
+        io::write_all(
+            STDERR_FILENO,
+            b"tuffaleen: a read failed, so the input ends there\n",
+        );
+    }
+}
+
 // The line of the number that refused the whole session.
 fn print_refusal(refusal: Refusal) {
     let mut out = [0u8; ANSWER_MOST];
     let bytes = digits::write_answer(Answer::Refused(refusal), &mut out);
-    io::write_all(STDOUT_FILENO, &out[..bytes]);
+    print(&out[..bytes]);
 }
 
 fn main() {
@@ -26,6 +47,7 @@ fn main() {
         print_refusal(Refusal::OutputTooShort);
         return;
     }
+    tell_failed_read();
     let mut keys = [0u8; CACHE_SIZE];
     let mut marks = [0u8; STORE_SIZE];
     let mut out = [0u8; OUTPUT];
@@ -38,5 +60,5 @@ fn main() {
         return;
     }
     let bytes = ran.bytes;
-    io::write_all(STDOUT_FILENO, &out[..bytes]);
+    print(&out[..bytes]);
 }

@@ -13,7 +13,7 @@ use Rattle.locks.proofs.decide.Statement.{statement}
 use Rattle.locks.proofs.decide.Tie as tie
 
 -- what is known where the two kinds of tests have passed
-valid : (c : tie.Else3) → invalidFields (c .before .before .before .args .dword11) ≡ false
+valid : (c : tie.Else3) → let s : tie.Start = search in invalidFields (s .args .dword11) ≡ false
 valid c =
     let else2 : tie.Else2 = search in
     let else1 : tie.Else1 = search in
@@ -21,7 +21,7 @@ valid c =
     invalid-masks (s .args .dword11) (s .fits .dword11 .fits)
     ∙ (rw (le-ltb _ _ (else1 .if1 .left), else2 .if2 .left, c .if3 .left))
 
-none-held : (c : tie.Else5) → let s = c .before .before .before .before .before .before .before .args in notChangeable (s .locks) (s .dword11) ≡ false
+none-held : (c : tie.Else5) → let s : tie.Start = search in notChangeable (s .args .locks) (s .args .dword11) ≡ false
 none-held c =
     let at-asks-held2 : tie.After-asks-held2 = search in
     let else4 : tie.Else4 = search in

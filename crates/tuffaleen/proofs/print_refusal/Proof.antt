@@ -20,8 +20,8 @@ array-share-prefix-out c =
     let r : tie.After-write-answer = search in
     fits _ _ _ (r .write-answer .ensures)
 
-slice-aggregate-write-all : tie.Need-slice-aggregate-write-all
-slice-aggregate-write-all c =
+slice-aggregate-print : tie.Need-slice-aggregate-print
+slice-aggregate-print c =
     let r : tie.After-write-answer = search in
     sym (length-take-le _ _ (fits _ _ _ (r .write-answer .ensures)))
 
@@ -29,5 +29,5 @@ pub print-refusal-spec : {M : Type 1} → statement M
 print-refusal-spec =
     tie.close
     (tie.spec
-    (λ c. search needs) (λ c κs. search needs) array-share-prefix-out slice-aggregate-write-all
+    (λ c. search needs) (λ c κs. search needs) array-share-prefix-out slice-aggregate-print
     (λ c κs. search needs) (λ c. search needs))
