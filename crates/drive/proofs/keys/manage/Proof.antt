@@ -1,5 +1,4 @@
--- `manage` meets its contract: each return is one of the checks. `e`, `g`, `h`, `j` and `o` are the places where the checks have
--- passed, in their order.
+-- `manage` meets its contract: each return is one of the checks. First what is known at each place where a check has passed.
 -- Assumes nothing.
 use borrow.Author.Needs.{needs}
 use mathlib.Core.Path.{_≡_, sym, _∙_}
@@ -18,23 +17,35 @@ use Rattle.drive.proofs.KeysLaws.{managed-by, unmanaged-by}
 use Rattle.drive.proofs.keys.manage.Statement.{statement}
 use Rattle.drive.proofs.keys.manage.Tie as tie
 
+named : (e : tie.Else1) → let s : tie.Start = search in noNamespace (s .args .ns) ≡ false
+named e =
+    let n : tie.After-no-namespace = search in
+    sym (n .no-namespace .ensures) ∙ e .if1 .left
+
+free : (g : tie.Else2) → let s : tie.Start = search in managed (state (s .args .registers) [] []) (s .args .ns) ≡ false
+free g =
+    let k : tie.After-count = search in
+    let s : tie.Start = search in
+    unmanaged-by (s .args .registers) (s .args .ns) _ (k .count .ensures) (g .if2 .left)
+
+some : (h : tie.Else3) → let s : tie.Start = search in eqb (s .args .tags) 0 ≡ false
+some h = ne-eqb _ 0 (h .if3 .left)
+
+few : (j : tie.Else4) → let s : tie.Start = search in ltb tagsMost (s .args .tags) ≡ false
+few j = le-ltb tagsMost _ (j .if4 .left)
+
 returns : tie.Need-returns
 unfolding manage
 returns c =
     λ keys marks.
     let t : tie.Then1 = search in
     let n : tie.After-no-namespace = search in
-    let s : tie.Start = search in
-    let a = s .args in
-    let unnamed : noNamespace (a .ns) ≡ true = sym (n .no-namespace .ensures) ∙ t .if1 .taken in
-    rw (c .refused .ensures, unnamed)
+    rw (c .refused .ensures, sym (n .no-namespace .ensures) ∙ t .if1 .taken)
 
 count-requires : tie.Need-count-requires
 count-requires c κs =
-    let s : tie.Start = search in
-    let n : tie.After-no-namespace = search in
     let e : tie.Else1 = search in
-    is-namespace (s .args .ns) (sym (n .no-namespace .ensures) ∙ e .if1 .left)
+    is-namespace _ (named e)
 
 returns-2 : tie.Need-returns-2
 unfolding manage
@@ -43,12 +54,8 @@ returns-2 c =
     let t : tie.Then2 = search in
     let k : tie.After-count = search in
     let e : tie.Else1 = search in
-    let n : tie.After-no-namespace = search in
     let s : tie.Start = search in
-    let a = s .args in
-    let named : noNamespace (a .ns) ≡ false = sym (n .no-namespace .ensures) ∙ e .if1 .left in
-    let held : managed (state (a .registers) [] []) (a .ns) ≡ true = managed-by (a .registers) (a .ns) _ (k .count .ensures) (t .if2 .taken) in
-    rw (c .refused2 .ensures, named, held)
+    rw (c .refused2 .ensures, named e, managed-by (s .args .registers) (s .args .ns) _ (k .count .ensures) (t .if2 .taken))
 
 returns-3 : tie.Need-returns-3
 unfolding manage
@@ -56,15 +63,8 @@ returns-3 c =
     λ keys marks.
     let t : tie.Then3 = search in
     let g : tie.Else2 = search in
-    let k : tie.After-count = search in
     let e : tie.Else1 = search in
-    let n : tie.After-no-namespace = search in
-    let s : tie.Start = search in
-    let a = s .args in
-    let named : noNamespace (a .ns) ≡ false = sym (n .no-namespace .ensures) ∙ e .if1 .left in
-    let free : managed (state (a .registers) [] []) (a .ns) ≡ false = unmanaged-by (a .registers) (a .ns) _ (k .count .ensures) (g .if2 .left) in
-    let none : eqb (a .tags) 0 ≡ true = eq-eqb (a .tags) 0 (t .if3 .taken) in
-    rw (c .refused3 .ensures, named, free, none)
+    rw (c .refused3 .ensures, named e, free g, eq-eqb _ 0 (t .if3 .taken))
 
 returns-4 : tie.Need-returns-4
 unfolding manage
@@ -73,16 +73,8 @@ returns-4 c =
     let t : tie.Then4 = search in
     let h : tie.Else3 = search in
     let g : tie.Else2 = search in
-    let k : tie.After-count = search in
     let e : tie.Else1 = search in
-    let n : tie.After-no-namespace = search in
-    let s : tie.Start = search in
-    let a = s .args in
-    let named : noNamespace (a .ns) ≡ false = sym (n .no-namespace .ensures) ∙ e .if1 .left in
-    let free : managed (state (a .registers) [] []) (a .ns) ≡ false = unmanaged-by (a .registers) (a .ns) _ (k .count .ensures) (g .if2 .left) in
-    let some : eqb (a .tags) 0 ≡ false = ne-eqb (a .tags) 0 (h .if3 .left) in
-    let many : ltb tagsMost (a .tags) ≡ true = lt-ltb tagsMost (a .tags) (t .if4 .taken) in
-    rw (c .refused4 .ensures, named, free, some, many)
+    rw (c .refused4 .ensures, named e, free g, some h, lt-ltb tagsMost _ (t .if4 .taken))
 
 returns-5 : tie.Need-returns-5
 unfolding manage
@@ -93,25 +85,16 @@ returns-5 c =
     let j : tie.Else4 = search in
     let h : tie.Else3 = search in
     let g : tie.Else2 = search in
-    let k : tie.After-count = search in
     let e : tie.Else1 = search in
-    let n : tie.After-no-namespace = search in
     let s : tie.Start = search in
-    let a = s .args in
-    let named : noNamespace (a .ns) ≡ false = sym (n .no-namespace .ensures) ∙ e .if1 .left in
-    let free : managed (state (a .registers) [] []) (a .ns) ≡ false = unmanaged-by (a .registers) (a .ns) _ (k .count .ensures) (g .if2 .left) in
-    let some : eqb (a .tags) 0 ≡ false = ne-eqb (a .tags) 0 (h .if3 .left) in
-    let few : ltb tagsMost (a .tags) ≡ false = le-ltb tagsMost (a .tags) (j .if4 .left) in
-    let above : ltb poolSlots (total (a .registers .counts) + a .tags) ≡ true =
-    rw (← m .total .ensures .0) (lt-ltb poolSlots (m .total .result + a .tags) (t .if5 .taken)) in
-    rw (c .refused5 .ensures, named, free, some, few, above)
+    let above : ltb poolSlots (total (s .args .registers .counts) + s .args .tags) ≡ true =
+    rw (← m .total .ensures .0) (lt-ltb poolSlots (m .total .result + s .args .tags) (t .if5 .taken)) in
+    rw (c .refused5 .ensures, named e, free g, some h, few j, above)
 
 with-count-requires : tie.Need-with-count-requires
 with-count-requires c κs =
-    let s : tie.Start = search in
-    let n : tie.After-no-namespace = search in
     let e : tie.Else1 = search in
-    is-namespace (s .args .ns) (sym (n .no-namespace .ensures) ∙ e .if1 .left)
+    is-namespace _ (named e)
 
 returns-6 : tie.Need-returns-6
 unfolding manage setCount
@@ -123,18 +106,11 @@ returns-6 c =
     let j : tie.Else4 = search in
     let h : tie.Else3 = search in
     let g : tie.Else2 = search in
-    let k : tie.After-count = search in
     let e : tie.Else1 = search in
-    let n : tie.After-no-namespace = search in
     let s : tie.Start = search in
-    let a = s .args in
-    let named : noNamespace (a .ns) ≡ false = sym (n .no-namespace .ensures) ∙ e .if1 .left in
-    let free : managed (state (a .registers) [] []) (a .ns) ≡ false = unmanaged-by (a .registers) (a .ns) _ (k .count .ensures) (g .if2 .left) in
-    let some : eqb (a .tags) 0 ≡ false = ne-eqb (a .tags) 0 (h .if3 .left) in
-    let few : ltb tagsMost (a .tags) ≡ false = le-ltb tagsMost (a .tags) (j .if4 .left) in
-    let room : ltb poolSlots (total (a .registers .counts) + a .tags) ≡ false =
-    rw (← m .total .ensures .0) (le-ltb poolSlots (m .total .result + a .tags) (o .if5 .left)) in
-    rw (c .done .ensures, w .with-count .ensures, named, free, some, few, room)
+    let room : ltb poolSlots (total (s .args .registers .counts) + s .args .tags) ≡ false =
+    rw (← m .total .ensures .0) (le-ltb poolSlots (m .total .result + s .args .tags) (o .if5 .left)) in
+    rw (c .done .ensures, w .with-count .ensures, named e, free g, some h, few j, room)
 
 pub manage-spec : {M : Type 1} → statement M
 manage-spec =

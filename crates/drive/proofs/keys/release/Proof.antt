@@ -1,4 +1,4 @@
--- `release` meets its contract: each return is one of the checks.
+-- `release` meets its contract: each return is one of the checks. First what is known where a check has passed.
 -- Assumes nothing.
 use borrow.Author.Needs.{needs}
 use mathlib.Core.Path.{_≡_, sym, _∙_}
@@ -14,22 +14,28 @@ use Rattle.drive.proofs.KeysLaws.{managed-by, unmanaged-by, zeroed-is}
 use Rattle.drive.proofs.keys.release.Statement.{statement}
 use Rattle.drive.proofs.keys.release.Tie as tie
 
+named : (e : tie.Else1) → let s : tie.Start = search in noNamespace (s .args .ns) ≡ false
+named e =
+    let n : tie.After-no-namespace = search in
+    sym (n .no-namespace .ensures) ∙ e .if1 .left
+
+held : (g : tie.Else2) → let s : tie.Start = search in managed (state (s .args .registers) [] []) (s .args .ns) ≡ true
+held g =
+    let k : tie.After-count = search in
+    let s : tie.Start = search in
+    managed-by (s .args .registers) (s .args .ns) _ (k .count .ensures) (g .if2 .left)
+
 returns : tie.Need-returns
 unfolding release
 returns c =
     let t : tie.Then1 = search in
     let n : tie.After-no-namespace = search in
-    let s : tie.Start = search in
-    let a = s .args in
-    let unnamed : noNamespace (a .ns) ≡ true = sym (n .no-namespace .ensures) ∙ t .if1 .taken in
-    rw (c .refused .ensures, unnamed)
+    rw (c .refused .ensures, sym (n .no-namespace .ensures) ∙ t .if1 .taken)
 
 count-requires : tie.Need-count-requires
 count-requires c κs =
-    let s : tie.Start = search in
-    let n : tie.After-no-namespace = search in
     let e : tie.Else1 = search in
-    is-namespace (s .args .ns) (sym (n .no-namespace .ensures) ∙ e .if1 .left)
+    is-namespace _ (named e)
 
 returns-2 : tie.Need-returns-2
 unfolding release
@@ -37,19 +43,13 @@ returns-2 c =
     let t : tie.Then2 = search in
     let k : tie.After-count = search in
     let e : tie.Else1 = search in
-    let n : tie.After-no-namespace = search in
     let s : tie.Start = search in
-    let a = s .args in
-    let named : noNamespace (a .ns) ≡ false = sym (n .no-namespace .ensures) ∙ e .if1 .left in
-    let free : managed (state (a .registers) [] []) (a .ns) ≡ false = unmanaged-by (a .registers) (a .ns) _ (k .count .ensures) (t .if2 .taken) in
-    rw (c .refused2 .ensures, named, free)
+    rw (c .refused2 .ensures, named e, unmanaged-by (s .args .registers) (s .args .ns) _ (k .count .ensures) (t .if2 .taken))
 
 with-count-requires : tie.Need-with-count-requires
 with-count-requires c κs =
-    let s : tie.Start = search in
-    let n : tie.After-no-namespace = search in
     let e : tie.Else1 = search in
-    is-namespace (s .args .ns) (sym (n .no-namespace .ensures) ∙ e .if1 .left)
+    is-namespace _ (named e)
 
 returns-3 : tie.Need-returns-3
 unfolding release emptySlots zeroMarks setCount
@@ -58,16 +58,12 @@ returns-3 c =
     let z : tie.After-zero-namespace = search in
     let y : tie.After-clear-namespace = search in
     let g : tie.Else2 = search in
-    let k : tie.After-count = search in
     let e : tie.Else1 = search in
-    let n : tie.After-no-namespace = search in
     let s : tie.Start = search in
     let a = s .args in
-    let named : noNamespace (a .ns) ≡ false = sym (n .no-namespace .ensures) ∙ e .if1 .left in
-    let held : managed (state (a .registers) [] []) (a .ns) ≡ true = managed-by (a .registers) (a .ns) _ (k .count .ensures) (g .if2 .left) in
-    let emptied = y .clear-namespace .ensures ∙ cleared-namespace-is (a .keys .now) (s .pre .sized .cache) (a .ns) named in
-    let unwritten = z .zero-namespace .ensures ∙ zeroed-is (a .marks .now) (s .pre .sized .store) (a .ns) named in
-    rw (c .done .ensures, w .with-count .ensures, unwritten, emptied, named, held)
+    let emptied = y .clear-namespace .ensures ∙ cleared-namespace-is (a .keys .now) (s .pre .sized .cache) (a .ns) (named e) in
+    let unwritten = z .zero-namespace .ensures ∙ zeroed-is (a .marks .now) (s .pre .sized .store) (a .ns) (named e) in
+    rw (c .done .ensures, w .with-count .ensures, unwritten, emptied, named e, held g)
 
 pub release-spec : {M : Type 1} → statement M
 release-spec =
