@@ -28,7 +28,7 @@ use Rattle.rules.specs.Order.{frameRule, frameOf, lineRule, step, isRead
 use Rattle.rules.specs.Call.{callChecks, roomFor, Called, unanswered, answered}
 use Rattle.rules.specs.Sessions.{joined, linesOf, Session, noSession, allAnswered}
 use Rattle.rules.specs.Start.{fresh, freshWith, emptiedCache, startChecks, start}
-use Rattle.rules.specs.Promises.{NumbersAsNamed, NoneFed, fed, LinesOfText, Starts, StartRefusedWhen, StartRefusedKeeps, StartsFresh}
+use Rattle.rules.specs.Promises.{NumbersAsNamed, NoneFed, fed, EndsUnfed, GiveBack, LinesOfText, Starts, StartRefusedWhen, StartRefusedKeeps, StartsFresh}
 use Rattle.rules.specs.History.{Event, holds, covers, lastWritten}
 use Rattle.rules.specs.Promises.{Calls, Sessions, FromFresh, Steps, checksOf, sessionChecks, RefusedWhen, DoneWhen, RefusedKeeps, Writes}
 use Rattle.rules.specs.Promises.{SessionRefusedWhen, SessionRefusedKeeps, SessionAnswers, SlotAsTold, OneKeyForAKeyUid, CountAsTold, NeverUnsound}
@@ -76,14 +76,19 @@ numbers-as-named = record {
   is-07·0F = refl;
 }
 
+longer-unfed : (b : ℕ) (text : List ℕ) → EndsUnfed text → EndsUnfed (b ∷ text)
+longer-unfed b [] u = absurd u
+longer-unfed b (c ∷ text) u = u
+
 -- a byte before the first line, and before none
 joined-back : (b : ℕ) → (b ≡ lineFeed → ⊥) → (lines : List (List ℕ)) (text : List ℕ) → NoneFed lines
-    → (fed lines ≡ text) ⊎ (fed lines ≡ text ++ (lineFeed ∷ []))
+    → GiveBack lines text
     → (lines ≡ [] → text ≡ [])
-    → NoneFed (joined b lines) × ((fed (joined b lines) ≡ b ∷ text) ⊎ (fed (joined b lines) ≡ (b ∷ text) ++ (lineFeed ∷ [])))
-joined-back b n [] text none back first = (((n, tt), tt), inr (ap (λ t. b ∷ (t ++ (lineFeed ∷ []))) (sym (first refl))))
+    → NoneFed (joined b lines) × GiveBack (joined b lines) (b ∷ text)
+joined-back b n [] text none back first =
+    (((n, tt), tt), inr (ap (λ t. b ∷ (t ++ (lineFeed ∷ []))) (sym (first refl)), rw (first refl) n))
 joined-back b n (line ∷ lines) text none back first =
-    (((n, none .0), none .1), ⊎-elim (λ e. inl (ap (λ t. b ∷ t) e)) (λ e. inr (ap (λ t. b ∷ t) e)) back)
+    (((n, none .0), none .1), ⊎-elim (λ e. inl (ap (λ t. b ∷ t) e)) (λ e. inr (ap (λ t. b ∷ t) (e .0), longer-unfed b text (e .1))) back)
 
 no-text : (text : List ℕ) → linesOf text ≡ [] → text ≡ []
 unfolding linesOf
@@ -101,15 +106,11 @@ no-text (b ∷ text) e = by (eqb b lineFeed) e
 cons : {a b : ℕ} {xs ys : List ℕ} → a ≡ b → xs ≡ ys → a ∷ xs ≡ b ∷ ys
 cons p q = cc
 
--- lines that give a text back
-abbrev Back : List (List ℕ) → List ℕ → Type 0
-Back lines text = NoneFed lines × ((fed lines ≡ text) ⊎ (fed lines ≡ text ++ (lineFeed ∷ [])))
-
-one-byte : (b : ℕ) (text : List ℕ) → Back (linesOf text) text → (f : Bool) → eqb b lineFeed ≡ f
-    → Back (cond f ([] ∷ linesOf text) (joined b (linesOf text))) (b ∷ text)
+one-byte : (b : ℕ) (text : List ℕ) → NoneFed (linesOf text) × GiveBack (linesOf text) text → (f : Bool) → eqb b lineFeed ≡ f
+    → let lines = cond f ([] ∷ linesOf text) (joined b (linesOf text)) in NoneFed lines × GiveBack lines (b ∷ text)
 one-byte b text back true e =
     let is = eqb-true b lineFeed e in
-    ((tt, back .0), ⊎-elim (λ p. inl (cons (sym is) p)) (λ p. inr (cons (sym is) p)) (back .1))
+    ((tt, back .0), ⊎-elim (λ p. inl (cons (sym is) p)) (λ p. inr (cons (sym is) (p .0), longer-unfed b text (p .1))) (back .1))
 one-byte b text back false e = joined-back b (eqb-false b lineFeed e) (linesOf text) text (back .0) (back .1) (no-text text)
 
 pub lines-of-text : LinesOfText

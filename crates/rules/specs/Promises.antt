@@ -62,7 +62,8 @@ pub record NumbersAsNamed : Type 0 where
   pub is-07·0F : refusalNumber 07·0F ≡ 0x070F
 
 -- ------------------------------------------------------------------------
--- The lines of a text: none has a line feed, and each with one behind it gives the text back, up to the last line feed
+-- The lines of a text: none has a line feed, and each with one behind it gives the text back; where the text does not end with one, and
+-- is not empty, the text and one more
 
 abbrev pub NoLineFeed : List ℕ → Type 0
 NoLineFeed [] = Unit {0}
@@ -76,8 +77,16 @@ abbrev pub fed : List (List ℕ) → List ℕ
 fed [] = []
 fed (line ∷ lines) = line ++ (lineFeed ∷ fed lines)
 
+abbrev pub EndsUnfed : List ℕ → Type 0
+EndsUnfed [] = ⊥
+EndsUnfed (b ∷ []) = b ≡ lineFeed → ⊥
+EndsUnfed (b ∷ (c ∷ text)) = EndsUnfed (c ∷ text)
+
+abbrev pub GiveBack : List (List ℕ) → List ℕ → Type 0
+GiveBack lines text = (fed lines ≡ text) ⊎ ((fed lines ≡ text ++ (lineFeed ∷ [])) × EndsUnfed text)
+
 abbrev pub LinesOfText : Type 0
-LinesOfText = (text : List ℕ) → NoneFed (linesOf text) × ((fed (linesOf text) ≡ text) ⊎ (fed (linesOf text) ≡ text ++ (lineFeed ∷ [])))
+LinesOfText = (text : List ℕ) → NoneFed (linesOf text) × GiveBack (linesOf text) text
 
 -- ------------------------------------------------------------------------
 -- What the statements are over, and the definitions' own relations
