@@ -8,7 +8,7 @@
  *     gcc -Iinclude firmware.c target/staticlib/libtuffaleen_c.a
  *
  * It needs memcpy and memset and nothing else of a C library: no heap, no input or output, no threads. A call takes
- * less than 1 KB of stack.
+ * at most 1,000 bytes of stack (the frames in the x86-64 code that rt makes), and what memcpy and memset take.
  *
  * Keys are worked on where they lie, in the image, and are not copied. A line that brings a key is decoded into 70
  * bytes on the stack, which are zeroed before the call returns. A compiler may drop such stores; in the object code
