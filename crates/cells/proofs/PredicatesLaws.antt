@@ -145,7 +145,8 @@ module _ (w : ℕ) (f : ℕ → List ℕ → Bool) where
   some-start i xs = refl
 
   -- cell j is the next after n cells from i
-  pub some-next : (i n j : ℕ) (xs : List ℕ) → i + n ≡ j → someCell w i n f xs ≡ false → f j (cell w j xs) ≡ false → someCell w i (n + 1) f xs ≡ false
+  pub some-next : (i n j : ℕ) (xs : List ℕ) → i + n ≡ j → someCell w i n f xs ≡ false → f j (cell w j xs) ≡ false
+      → someCell w i (n + 1) f xs ≡ false
   some-next i n j xs at e h =
       then-none w f (n + 1) i xs (λ k l. by-cases (decLt k n) (λ lt. none-then w f n i xs e k lt) (λ ge. let q : i + k ≡ j = omega arith in rw q h))
 
@@ -165,7 +166,8 @@ both-false false b f g = sym (f refl)
 
 module _ (w : ℕ) where
   -- m cells from i, and the n after them
-  pub some-split : (f : ℕ → List ℕ → Bool) (i m n : ℕ) (xs : List ℕ) → someCell w i (m + n) f xs ≡ someCell w i m f xs || someCell w (i + m) n f xs
+  pub some-split : (f : ℕ → List ℕ → Bool) (i m n : ℕ) (xs : List ℕ)
+      → someCell w i (m + n) f xs ≡ someCell w i m f xs || someCell w (i + m) n f xs
   some-split f i m n xs =
       let s : (k : ℕ) → i + (m + k) ≡ i + m + k = (λ k. omega arith) in
       let r : (k : ℕ) → m ≤ k → i + k ≡ i + m + (k - m) = (λ k h. omega arith) in
@@ -177,7 +179,8 @@ module _ (w : ℕ) where
       (λ lt. none-then w f m i xs (or-left _ _ e) k lt)
       (λ ge. rw (r k (omega arith)) (none-then w f n (i + m) xs (or-right (someCell w i m f xs) _ e) (k - m) (omega arith)))))
 
-  pub some-same : (f g : ℕ → List ℕ → Bool) (i n : ℕ) (xs : List ℕ) → ((k : ℕ) → k < n → f (i + k) (cell w (i + k) xs) ≡ g (i + k) (cell w (i + k) xs))
+  pub some-same : (f g : ℕ → List ℕ → Bool) (i n : ℕ) (xs : List ℕ)
+      → ((k : ℕ) → k < n → f (i + k) (cell w (i + k) xs) ≡ g (i + k) (cell w (i + k) xs))
       → someCell w i n f xs ≡ someCell w i n g xs
   some-same f g i n xs h =
       both-false _ _

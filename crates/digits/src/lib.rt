@@ -183,7 +183,8 @@ fn put_digits(bytes: &[u8], out: &mut [u8])
 
 // Writes the line of an answer that has these bytes.
 fn write_line(bytes: &[u8], out: &mut [u8]) -> usize
-    ensures { λ r. ⌜ ((a : Answer) → answerBytes a ≡ now (bytes .entry) → record { bytes = r; out = now (out .exit) } ≡ wrote a (now (out .entry))) ⌝ }
+    ensures { λ r. ⌜ ((a : Answer) → answerBytes a ≡ now (bytes .entry)
+        → record { bytes = r; out = now (out .exit) } ≡ wrote a (now (out .entry))) ⌝ }
 {
     let n = bytes.len() * 2;
     if out.len() <= n {

@@ -20,7 +20,7 @@ use Rattle.rules.specs.State.{State, Outcome, refuse, obey}
 use Rattle.rules.specs.Slots.{Contents, placeOf, empty, loaded, uidOf, otherKey}
 use Rattle.rules.specs.Sound.{unsound}
 use Rattle.rules.specs.Effects.{storeKey, emptySlot}
-use Rattle.rules.specs.Order.{frameRule, frameOf, readingChecks, lineRule, load, replace, clearOne, step}
+use Rattle.rules.specs.Order.{frameRule, frameOf, readingChecks, lineRule, slotChecks, load, replace, clearOne, step}
 use Rattle.rules.proofs.ChecksLaws.{then-pass, judged-append, judged-map}
 use Rattle.rules.proofs.StateLaws.{is-namespace, done}
 use Rattle.rules.proofs.SlotsLaws.{place-small}
@@ -28,7 +28,7 @@ use Rattle.rules.proofs.SoundLaws.{sound-cache}
 use Rattle.rules.proofs.EffectsLaws.{named-slot}
 use Rattle.frames.specs.Reading.{frame, refusal}
 use Rattle.drive.specs.declared.Found.the-variants as found
-use Rattle.drive.specs.Acting.{state, Sound, acted, slotChecks, located, putAt, loadAt, replaceAt, clearAt}
+use Rattle.drive.specs.Acting.{state, Sound, acted, located, putAt, loadAt, replaceAt, clearAt}
 
 -- soundness does not look at the marks
 pub sound-keys : (d : Registers) (keys marks : List ℕ) → unsound (state d keys marks) ≡ unsound (state d keys [])
@@ -67,7 +67,8 @@ module _ (d : Registers) (keys marks : List ℕ) (ns : Namespace) (tag : Tag) wh
   refused-by r o e = ap (λ v. settle v (refuse s) o) (verdict-of (firstRefusal (slotChecks s ns tag)) (placeOf ns tag) r e)
 
   -- or they pass, and the place is the slot's
-  found-by : (q : ℕ) (f : ℕ → Outcome) → found.Place q ≡ located (state d [] []) ns tag → judged (slotChecks s ns tag) (refuse s) (f (placeOf ns tag)) ≡ f q
+  found-by : (q : ℕ) (f : ℕ → Outcome) → found.Place q ≡ located (state d [] []) ns tag
+      → judged (slotChecks s ns tag) (refuse s) (f (placeOf ns tag)) ≡ f q
   unfolding located
   found-by q f e =
       let p = place-of (firstRefusal (slotChecks s ns tag)) (placeOf ns tag) q e in

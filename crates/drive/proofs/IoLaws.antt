@@ -146,7 +146,8 @@ module _ (s : State) (c : Command) where
 -- ------------------------------------------------------------------------
 -- The key checks, by the place that the tag leads to
 
-refused-place : (b : Bool) (p : ℕ) (r : Refusal) → found.Refused r ≡ judged (00·25 when b ∷ []) found.Refused (found.Place p) → (b ≡ true) × (r ≡ 00·25)
+refused-place : (b : Bool) (p : ℕ) (r : Refusal) → found.Refused r ≡ judged (00·25 when b ∷ []) found.Refused (found.Place p)
+    → (b ≡ true) × (r ≡ 00·25)
 refused-place true p r e = (refl, cc)
 refused-place false p r e = absurd (let z : _≡_ {A = ℕ} 0 1 = cc in omega arith)
 
@@ -297,6 +298,7 @@ module _ (registers : Registers) (keys marks : List ℕ) (c : Command) where
       written e = rw covered-is (rw (write-not-read c e, e) at (known-leads true e to))
 
       -- what reads is refused by the marks, or changes nothing
-      pub read-by : {b : Bool} → b ≡ someDiffers (blockOf (c .ns) (c .first)) (c .more + 1) (part (place * slotWidth) markWidth keys) marks → isReading c ≡ true
+      pub read-by : {b : Bool} → b ≡ someDiffers (blockOf (c .ns) (c .first)) (c .more + 1) (part (place * slotWidth) markWidth keys) marks
+          → isReading c ≡ true
           → judged (00·28 when b ∷ []) (refuse s) (record { answer = Done; state = s }) ≡ outcome
       read-by q e = rw (q, wrong-is) (rw (e, read-not-write c e) at (known-leads false e to))

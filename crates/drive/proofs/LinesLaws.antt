@@ -110,6 +110,7 @@ unfolding roomForAll
 no-room text at h = ap roomForAll (no-lines text at h)
 
 -- a line's, and that of the lines behind it
-pub room-splits : (text : List ℕ) (at end next : ℕ) → LineAt text at end next → roomFrom text at ≡ roomFor (part at (end - at) text) + roomFrom text next
+pub room-splits : (text : List ℕ) (at end next : ℕ) → LineAt text at end next
+    → roomFrom text at ≡ roomFor (part at (end - at) text) + roomFrom text next
 unfolding roomForAll
 room-splits text at end next l = ap roomForAll (l .splits)

@@ -160,7 +160,10 @@ module _ (s₀ : State) (text out₀ : List ℕ) where
         let inside : bytes ≤ length out = omega arith in
         let size : bytes ≡ length whole = sym (length-take-le bytes out inside) ∙ ap length all in
         let last : out ≡ written whole out₀ =
-        sym (take-append-drop bytes out) ∙ ap (λ t. t ++ drop bytes out) all ∙ ap (λ t. whole ++ t) (m .rest) ∙ ap (λ k. whole ++ drop k out₀) size in
+        sym (take-append-drop bytes out)
+        ∙ ap (λ t. t ++ drop bytes out) all
+        ∙ ap (λ t. whole ++ t) (m .rest)
+        ∙ ap (λ k. whole ++ drop k out₀) size in
         ap (λ x. record { result = Done; state = x; lines = lines; bytes = bytes; out = out }) end
         ∙ ap (λ x. record { result = Done; state = endState s₀ (linesOf text); lines = x; bytes = bytes; out = out }) count
         ∙ ap (λ x. record { result = Done; state = endState s₀ (linesOf text); lines = length (linesOf text); bytes = x; out = out }) size

@@ -13,14 +13,15 @@ use Rattle.rules.specs.declared.Command.{Command}
 use Rattle.rules.specs.declared.Registers.{Registers}
 use Rattle.rules.specs.declared.Refusal.{Refusal}
 use Rattle.rules.specs.declared.Answer.the-variants.{Done}
-use Rattle.rules.specs.Numbers.{blocksEach, slotWidth}
+use Rattle.rules.specs.Numbers.{slotWidth}
 use Rattle.rules.specs.Checks.{Check, _when_, judged}
-use Rattle.rules.specs.Answers.{00·0B, 00·25, 00·80, 07·06, 07·09, 07·0A, 07·0B, 07·0C, 07·0D, 07·0E, 07·0F}
-use Rattle.rules.specs.State.{State, Sized, Outcome, refuse, obey, wrongStore, noNamespace, managed, tagAbove}
+use Rattle.rules.specs.Answers.{00·0B, 00·25, 00·80, 07·09, 07·0A, 07·0B, 07·0C}
+use Rattle.rules.specs.State.{State, Sized, Outcome, refuse, obey, noNamespace, managed}
 use Rattle.rules.specs.Slots.{Contents, placeOf, slotBytes, emptied, empty, loaded, uidOf, otherKey}
 use Rattle.rules.specs.Sound.{unsound}
 use Rattle.rules.specs.Effects.{withKeys}
-use Rattle.rules.specs.Order.{frameRule, keyChecks, isWrite, isReading}
+use Rattle.rules.specs.Order.{frameRule, slotChecks, outOfRange, keyChecks, isWrite, isReading}
+use Rattle.rules.specs.Call.{admission}
 use Rattle.frames.specs.Reading.{Meant, frame, refusal}
 use Rattle.drive.specs.declared.Answered.{Answered}
 use Rattle.drive.specs.declared.Found.{Found}
@@ -30,7 +31,7 @@ use Rattle.drive.specs.declared.Access.the-variants.{Write, Reads, Neith
 use Rattle.drive.specs.declared.Reach.{Reach}
 use Rattle.drive.specs.declared.Reach.the-variants as reach
 use Rattle.drive.specs.declared.Admission.{Admission}
-use Rattle.drive.specs.declared.Admission.the-variants as admission
+use Rattle.drive.specs.declared.Admission.the-variants as admits
 
 abbrev pub state : Registers → List ℕ → List ℕ → State
 state registers keys marks = record { registers = registers; keys = keys; marks = marks }
@@ -60,13 +61,6 @@ acted s (refusal r) = refuse s r
 
 -- ------------------------------------------------------------------------
 -- The checks that load, replace and clear one begin with
-
-abbrev pub slotChecks : State → Namespace → Tag → List (Check Refusal)
-slotChecks s ns tag =
-    00·0B when noNamespace ns
-    ∷ 07·06 when not (managed s ns)
-    ∷ 00·25 when tagAbove s ns tag
-    ∷ []
 
 -- the place of a tag in a namespace with this count, or 00 25
 unfoldable pub placed : ℕ → Namespace → Tag → Found
@@ -121,9 +115,6 @@ abbrev pub Known : Command → Bool → Type 0
 Known c true = isWrite c ≡ true
 Known c false = isReading c ≡ true
 
-abbrev pub outOfRange : Command → Bool
-outOfRange c = ltb blocksEach (c .first + c .more + 1)
-
 -- where the key checks of a managed namespace lead: a refusal, or a slot
 unfoldable pub keyed : State → Command → Reach
 keyed s c = judged (keyChecks s c) reach.Refused (reach.Place (placeOf (c .ns) (c .tag)))
@@ -142,11 +133,4 @@ reached s c =
 -- The three checks of a call: 07 0F, 07 0D, 07 0E
 
 unfoldable pub admitted : Bool → State → Admission
-admitted short s =
-    judged
-    (07·0F when short
-    ∷ 07·0D when wrongStore (s .marks)
-    ∷ 07·0E when unsound s
-    ∷ [])
-    admission.Refused
-    admission.Open
+admitted short s = judged (admission short s) admits.Refused admits.Open

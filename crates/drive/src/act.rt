@@ -36,7 +36,8 @@ fn load(
 ) -> Answered
     requires { ⌜ Sound registers (now keys) × (FitKey (contentsAt 5 l (now f)) × (5 + l + keySize ≤ length (now f))) ⌝ }
     ensures { λ r. ⌜ ((marks : List ℕ) → outcome r (now (keys .exit)) marks
-        ≡ obey (state registers (now (keys .entry)) marks) (loadRule (state registers (now (keys .entry)) marks) ns tag (contentsAt 5 l (now (f .entry))))) ⌝ }
+        ≡ obey (state registers (now (keys .entry)) marks)
+        (loadRule (state registers (now (keys .entry)) marks) ns tag (contentsAt 5 l (now (f .entry))))) ⌝ }
 {
     let u = 5 + l;
     let e = u + KEY_SIZE;
@@ -103,7 +104,8 @@ pub(crate) fn on_line(
     frame: &mut [u8; FRAME_MOST],
 ) -> Answered
     requires { ⌜ Ready registers (now keys) (now marks) ⌝ }
-    ensures { λ r. ⌜ (outcome r (now (keys .exit)) (now (marks .exit)) ≡ step (state registers (now (keys .entry)) (now (marks .entry))) (now (line .entry)))
+    ensures { λ r. ⌜ (outcome r (now (keys .exit)) (now (marks .exit))
+        ≡ step (state registers (now (keys .entry)) (now (marks .entry))) (now (line .entry)))
         × (allZero (now (frame .exit)) ≡ true) ⌝ }
 {
     let read = frames::read(line, frame);

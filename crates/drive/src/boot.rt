@@ -17,7 +17,8 @@ use rules::Registers;
 
 // The pair goes by value, as all registers do; `locks::set_features` lends its own copy to the routine that changes it where it lies.
 pub(crate) fn set_features(registers: Registers, dword11: u32) -> Answered
-    ensures { λ r. ⌜ ((keys marks : List ℕ) → outcome r keys marks ≡ obey (state registers keys marks) (setFeatures (state registers keys marks) dword11)) ⌝ }
+    ensures { λ r. ⌜ ((keys marks : List ℕ) → outcome r keys marks
+        ≡ obey (state registers keys marks) (setFeatures (state registers keys marks) dword11)) ⌝ }
 {
     let locks = registers.locks;
     let changed = locks::set_features(locks, dword11);
@@ -28,7 +29,8 @@ pub(crate) fn set_features(registers: Registers, dword11: u32) -> Answered
 }
 
 pub(crate) fn get_features(registers: Registers) -> Answered
-    ensures { λ r. ⌜ ((keys marks : List ℕ) → outcome r keys marks ≡ obey (state registers keys marks) (getFeatures (state registers keys marks))) ⌝ }
+    ensures { λ r. ⌜ ((keys marks : List ℕ) → outcome r keys marks
+        ≡ obey (state registers keys marks) (getFeatures (state registers keys marks))) ⌝ }
 {
     let locks = registers.locks;
     let answer = Answer::LockStates(locks::shown(locks));
@@ -36,7 +38,8 @@ pub(crate) fn get_features(registers: Registers) -> Answered
 }
 
 pub(crate) fn boot_write(registers: Registers, partition: u8) -> Answered
-    ensures { λ r. ⌜ ((keys marks : List ℕ) → outcome r keys marks ≡ obey (state registers keys marks) (bootWrite (state registers keys marks) partition)) ⌝ }
+    ensures { λ r. ⌜ ((keys marks : List ℕ) → outcome r keys marks
+        ≡ obey (state registers keys marks) (bootWrite (state registers keys marks) partition)) ⌝ }
 {
     let locks = registers.locks;
     let answer = locks::boot_write(locks, partition);

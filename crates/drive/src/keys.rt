@@ -55,7 +55,8 @@ fn with_count(registers: Registers, ns: Namespace, tags: u8) -> Registers
 }
 
 pub(crate) fn manage(registers: Registers, ns: Namespace, tags: u8) -> Answered
-    ensures { λ r. ⌜ ((keys marks : List ℕ) → outcome r keys marks ≡ obey (state registers keys marks) (manageRule (state registers keys marks) ns tags)) ⌝ }
+    ensures { λ r. ⌜ ((keys marks : List ℕ) → outcome r keys marks
+        ≡ obey (state registers keys marks) (manageRule (state registers keys marks) ns tags)) ⌝ }
 {
     if no_namespace(ns) {
         return refused(registers, Refusal::InvalidNamespace);

@@ -99,7 +99,12 @@ fn on_ready(
     out: &mut [u8],
 ) -> Reply
     requires { ⌜ Ready registers (now keys) (now marks) × (roomFor (now line) ≤ length (now out)) ⌝ }
-    ensures { λ r. ⌜ record { answer = r .answer; state = state (r .registers) (now (keys .exit)) (now (marks .exit)); bytes = r .bytes; out = now (out .exit) }
+    ensures { λ r. ⌜ record {
+      answer = r .answer;
+      state = state (r .registers) (now (keys .exit)) (now (marks .exit));
+      bytes = r .bytes;
+      out = now (out .exit);
+    }
         ≡ answered (state registers (now (keys .entry)) (now (marks .entry))) (now (line .entry)) (now (out .entry)) ⌝ }
 {
     let mut frame = [0u8; FRAME_MOST];
@@ -122,7 +127,12 @@ pub fn answer_line(
     line: &[u8],
     out: &mut [u8],
 ) -> Reply
-    ensures { λ r. ⌜ record { answer = r .answer; state = state (r .registers) (now (keys .exit)) (now (marks .exit)); bytes = r .bytes; out = now (out .exit) }
+    ensures { λ r. ⌜ record {
+      answer = r .answer;
+      state = state (r .registers) (now (keys .exit)) (now (marks .exit));
+      bytes = r .bytes;
+      out = now (out .exit);
+    }
         ≡ call (state registers (now (keys .entry)) (now (marks .entry))) (now (line .entry)) (now (out .entry)) ⌝ }
 {
     let short = out.len() < lines::room_for(line);

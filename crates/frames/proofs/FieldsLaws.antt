@@ -16,7 +16,8 @@ unfolding little
 little-append [] ys = omega arith
 little-append (x ∷ xs) ys = rw (little-append xs ys, pow-succ' 256 (length xs), mul-assoc 256 (256 ^ length xs) (little ys)) (omega arith)
 
-pub little-join : (a m n : ℕ) (f : List ℕ) → a + m ≤ length f → little (part a (m + n) f) ≡ little (part a m f) + 256 ^ m * little (part (a + m) n f)
+pub little-join : (a m n : ℕ) (f : List ℕ) → a + m ≤ length f
+    → little (part a (m + n) f) ≡ little (part a m f) + 256 ^ m * little (part (a + m) n f)
 little-join a m n f h =
     ap little (part-join a m n f)
     ∙ little-append (part a m f) (part (a + m) n f)

@@ -38,7 +38,8 @@ held-masks locks d = rw (field0-mask d, field1-mask d)
 -- ------------------------------------------------------------------------
 -- What a field asks for, by what it is not
 
-pub asked-rest : (field : ℕ) (lock : Lock) → (field ≡ 0 → ⊥) → (field ≡ 1 → ⊥) → (field ≡ 2 → ⊥) → asked field lock ≡ WriteLockedUntilPowerCycle
+pub asked-rest : (field : ℕ) (lock : Lock) → (field ≡ 0 → ⊥) → (field ≡ 1 → ⊥) → (field ≡ 2 → ⊥)
+    → asked field lock ≡ WriteLockedUntilPowerCycle
 asked-rest zero lock a b c = absurd (a refl)
 asked-rest (suc zero) lock a b c = absurd (b refl)
 asked-rest (suc (suc zero)) lock a b c = absurd (c refl)

@@ -49,7 +49,8 @@ module _ (s : State) (text out : List ℕ) (o : Session) (l : SessionLeaves s te
   passed : AllPass (sessionChecks s text out)
   passed =
       ⊎-elim
-      (λ f. absurd (accepted-not Done (f .0) refl (sym (shows .ran) ∙ rules.session-refused-when s text out o (session-is s text out o l) (f .0) .1 (f .1 .0))))
+      (λ f. absurd (accepted-not Done (f .0) refl
+      (sym (shows .ran) ∙ rules.session-refused-when s text out o (session-is s text out o l) (f .0) .1 (f .1 .0))))
       (λ p. p .0)
       (by-verdict (sessionChecks s text out) Refused Done)
 
@@ -73,7 +74,8 @@ module _ (s : State) (text out : List ℕ) (o : Session) (l : SessionLeaves s te
 from-fresh : (h : List Event) (s : State) → SinceStart h s → FromFresh h s
 unfolding unanswered answered
 from-fresh h s (started keys store o l e) = rw (fresh-start keys store o l e) begin
-from-fresh h s (since.answered h′ s′ led line out o l p) = rw (call-is s′ line out o l ∙ call-read s′ line out p) (one-more h′ s′ (from-fresh h′ s′ led) line)
+from-fresh h s (since.answered h′ s′ led line out o l p) =
+    rw (call-is s′ line out o l ∙ call-read s′ line out p) (one-more h′ s′ (from-fresh h′ s′ led) line)
 from-fresh h s (unread h′ s′ led line out o l r f) = rw (call-is s′ line out o l ∙ call-unread s′ line out r f) (from-fresh h′ s′ led)
 from-fresh h s (since.session h′ s′ led text out o l answers shows) =
     rw (answers-are s′ text out o l answers shows, end-is s′ text out o l answers shows) (more h′ s′ (linesOf text) (from-fresh h′ s′ led))

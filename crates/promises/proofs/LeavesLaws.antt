@@ -10,7 +10,8 @@ use Rattle.rules.specs.Call.{Called, call}
 use Rattle.rules.specs.Sessions.{Session, session}
 use Rattle.promises.specs.Leaves.{StartLeaves, CallLeaves, SessionLeaves}
 
-all-same : {A B C D : Type 0} (f : A → B → C → D) {a a′ : A} {b b′ : B} {c c′ : C} → a ≡ a′ → b ≡ b′ → c ≡ c′ → f a b c ≡ f a′ b′ c′
+all-same : {A B C D : Type 0} (f : A → B → C → D) {a a′ : A} {b b′ : B} {c c′ : C} → a ≡ a′ → b ≡ b′ → c ≡ c′
+    → f a b c ≡ f a′ b′ c′
 all-same f p q r = cc
 
 both-same : {A B D : Type 0} (f : A → B → D) {a a′ : A} {b b′ : B} → a ≡ a′ → b ≡ b′ → f a b ≡ f a′ b′

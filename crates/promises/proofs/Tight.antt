@@ -147,7 +147,8 @@ pub tight-tuffaleen-c-start : Tight-tuffaleen-c-start
 tight-tuffaleen-c-start = (λ κs args. tt, λ κs args r r′ e e′ p q. ap (λ (c : CStarted). (c .number, (c .image, c .marks))) (one p q))
 
 pub tight-tuffaleen-c-line : Tight-tuffaleen-c-line
-tight-tuffaleen-c-line = (λ κs args. tt, λ κs args r r′ e e′ p q. ap (λ (c : CCalled). (c .number, (c .image, (c .marks, (c .out, c .bytes))))) (one p q))
+tight-tuffaleen-c-line =
+    (λ κs args. tt, λ κs args r r′ e e′ p q. ap (λ (c : CCalled). (c .number, (c .image, (c .marks, (c .out, c .bytes))))) (one p q))
 
 pub tight-tuffaleen-c-session : Tight-tuffaleen-c-session
 tight-tuffaleen-c-session =

@@ -193,7 +193,8 @@ module _ (s : State) (sized : Sized s) (sound : unsound s ≡ false) where
   -- Counts
 
   module _ (ns : Namespace) (is : IsNamespace ns) where
-    set-count : (n : Namespace) (tags : ℕ) → IsNamespace n → (b : Bool) → sameNamespace ns n ≡ b → count (setCount s n tags) ns ≡ cond b tags (count s ns)
+    set-count : (n : Namespace) (tags : ℕ) → IsNamespace n → (b : Bool) → sameNamespace ns n ≡ b
+        → count (setCount s n tags) ns ≡ cond b tags (count s ns)
     set-count n tags is-n true e = count-same s sized ns n is is-n tags e
     set-count n tags is-n false e = count-other s sized ns n is is-n tags e
 
@@ -275,11 +276,13 @@ module _ (s : State) (sized : Sized s) (sound : unsound s ≡ false) where
     markAfter (reset level) = mark s ns block
     markAfter unknown = mark s ns block
 
-    zeroed : (n : Namespace) → IsNamespace n → (b : Bool) → sameNamespace ns n ≡ b → mark (zeroMarks s n) ns block ≡ cond b neverWritten (mark s ns block)
+    zeroed : (n : Namespace) → IsNamespace n → (b : Bool) → sameNamespace ns n ≡ b
+        → mark (zeroMarks s n) ns block ≡ cond b neverWritten (mark s ns block)
     zeroed n is-n true e = zeroed-same s sized ns is block inside n is-n e
     zeroed n is-n false e = zeroed-other s sized ns is block inside n is-n e
 
-    covered : (c : Command) → IsNamespace (c .ns) → c .first + c .more + 1 ≤ blocksEach → (w b : Bool) → sameNamespace ns (c .ns) && covers c block ≡ b
+    covered : (c : Command) → IsNamespace (c .ns) → c .first + c .more + 1 ≤ blocksEach → (w b : Bool)
+        → sameNamespace ns (c .ns) && covers c block ≡ b
         → mark (onlyWhen w (markCovered s c) s) ns block ≡ cond (w && b) (identityOf (held (slot s ns (c .tag)))) (mark s ns block)
     covered c is-n range true true e = covered-same s sized ns is block inside c is-n range e
     covered c is-n range true false e = covered-other s sized ns is block inside c is-n range e

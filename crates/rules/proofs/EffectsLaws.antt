@@ -43,7 +43,8 @@ both-same : (ns n : Namespace) (tag t : Tag) → ns .0 ≡ n .0 → tag .0 ≡ t
 both-same ns n tag t e f = rw (eq-eqb (ns .0) (n .0) e, eq-eqb (tag .0) (t .0) f)
 
 -- a namespace and a tag that are not both the same have another place
-place-other : (ns n : Namespace) (tag t : Tag) → IsSlot ns tag → IsSlot n t → sameNamespace ns n && sameTag tag t ≡ false → placeOf ns tag ≡ placeOf n t → ⊥
+place-other : (ns n : Namespace) (tag t : Tag) → IsSlot ns tag → IsSlot n t → sameNamespace ns n && sameTag tag t ≡ false
+    → placeOf ns tag ≡ placeOf n t → ⊥
 place-other ns n tag t is named e p =
     let a : ns .0 ≡ n .0 = omega arith in
     let b : tag .0 ≡ t .0 = omega arith in

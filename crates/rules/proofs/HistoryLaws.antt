@@ -173,7 +173,8 @@ module _ (s : State) (h : List Event) (k : Kept s h) (f : Frame) (fit : Fit f) (
 
   -- a slot with a new key, and one that was there before
   new-key : (ns : Namespace) (tag : Tag) (is : IsSlot ns tag) (x : Held) → Storable s (k .sized) (k .sound) ns tag is next x → loaded (bytesOf x) ≡ true
-      → (ns′ : Namespace) (tag′ : Tag) → IsSlot ns′ tag′ → loaded (slot s ns′ tag′) ≡ true → uidOf (bytesOf x) ≡ uidOf (slot s ns′ tag′)
+      → (ns′ : Namespace) (tag′ : Tag) → IsSlot ns′ tag′ → loaded (slot s ns′ tag′) ≡ true
+      → uidOf (bytesOf x) ≡ uidOf (slot s ns′ tag′)
       → keyOf (bytesOf x) ≡ keyOf (slot s ns′ tag′)
   new-key ns tag is nothing p l ns′ tag′ is′ l′ e = absurd (emptied-not l)
   new-key ns tag is (holding x) p l ns′ tag′ is′ l′ e =
@@ -191,7 +192,8 @@ module _ (s : State) (h : List Event) (k : Kept s h) (f : Frame) (fit : Fit f) (
         (ap loaded (sym t) ∙ l) ns′ tag′ is′ (ap loaded (sym u) ∙ l′) (ap uidOf (sym t) ∙ e ∙ ap uidOf u)
         ∙ ap keyOf (sym u)
 
-  apart-next : (ns ns′ : Namespace) (tag tag′ : Tag) → IsSlot ns tag → IsSlot ns′ tag′ → (b b′ : Bool) → touches ns tag f ≡ b → touches ns′ tag′ f ≡ b′
+  apart-next : (ns ns′ : Namespace) (tag tag′ : Tag) → IsSlot ns tag → IsSlot ns′ tag′ → (b b′ : Bool) → touches ns tag f ≡ b
+      → touches ns′ tag′ f ≡ b′
       → loaded (slot next ns tag) ≡ true → loaded (slot next ns′ tag′) ≡ true → uidOf (slot next ns tag) ≡ uidOf (slot next ns′ tag′)
       → keyOf (slot next ns tag) ≡ keyOf (slot next ns′ tag′)
   apart-next ns ns′ tag tag′ is is′ true true t t′ l l′ e = ap keyOf (now-touched ns tag is t ∙ sym (now-touched ns′ tag′ is′ t′))
@@ -275,7 +277,8 @@ module _ (s : State) (h : List Event) (k : Kept s h) (f : Frame) (fit : Fit f) (
 
 -- the history grows by an accepted line
 module _ (e : Event) (h : List Event) (took : accepted (e .answer) ≡ true) where
-  holds-next : (ns : Namespace) (tag : Tag) → holds ns tag (e ∷ h) ≡ cond (touches ns tag (frameOf (e .line))) (leaves (frameOf (e .line))) (holds ns tag h)
+  holds-next : (ns : Namespace) (tag : Tag)
+      → holds ns tag (e ∷ h) ≡ cond (touches ns tag (frameOf (e .line))) (leaves (frameOf (e .line))) (holds ns tag h)
   unfolding holds
   holds-next ns tag = rw took
 
@@ -306,7 +309,8 @@ kept-taken s h e k fit p took =
 -- ------------------------------------------------------------------------
 -- Any lines from a fresh drive
 
-kept-step : (s : State) (h : List Event) (line : List ℕ) → Kept s h → Kept (step s line .state) (record { line = line; answer = step s line .answer } ∷ h)
+kept-step : (s : State) (h : List Event) (line : List ℕ) → Kept s h
+    → Kept (step s line .state) (record { line = line; answer = step s line .answer } ∷ h)
 kept-step s h line k =
     ⊎-elim
     (λ r. rw (r .1) (kept-refused s h line (r .0) k))

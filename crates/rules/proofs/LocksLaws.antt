@@ -27,7 +27,8 @@ asked-held (suc zero) lock e n = absurd (true≢false (sym (ap (λ l. asksHeld l
 asked-held (suc (suc zero)) lock e n = absurd (true≢false (sym (ap (λ l. asksHeld l 2) e) ∙ n))
 asked-held (suc (suc (suc field))) lock e n = refl
 
-changed-held : (locks : BootLocks) (dword11 p : ℕ) → Held (partition p locks) → notChangeable locks dword11 ≡ false → Held (partition p (changed locks dword11))
+changed-held : (locks : BootLocks) (dword11 p : ℕ) → Held (partition p locks) → notChangeable locks dword11 ≡ false
+    → Held (partition p (changed locks dword11))
 changed-held locks d p e n = by (eqb p 0) e
   where
     by : (b : Bool) → Held (cond b (locks .partition0) (locks .partition1)) → Held (cond b (changed locks d .partition0) (changed locks d .partition1))

@@ -28,7 +28,8 @@ use Rattle.rules.specs.Order.{frameRule, frameOf, lineRule, step, isRead
 use Rattle.rules.specs.Call.{callChecks, roomFor, Called, unanswered, answered}
 use Rattle.rules.specs.Sessions.{joined, linesOf, Session, noSession, allAnswered}
 use Rattle.rules.specs.Start.{fresh, freshWith, emptiedCache, startChecks, start}
-use Rattle.rules.specs.Promises.{NumbersAsNamed, NoneFed, fed, EndsUnfed, GiveBack, LinesOfText, Starts, StartRefusedWhen, StartRefusedKeeps, StartsFresh}
+use Rattle.rules.specs.Promises.{NumbersAsNamed, NoneFed, fed, EndsUnfed, GiveBack, LinesOfText}
+use Rattle.rules.specs.Promises.{Starts, StartRefusedWhen, StartRefusedKeeps, StartsFresh}
 use Rattle.rules.specs.History.{Event, holds, covers, lastWritten}
 use Rattle.rules.specs.Promises.{Calls, Sessions, FromFresh, Steps, checksOf, sessionChecks, RefusedWhen, DoneWhen, RefusedKeeps, Writes}
 use Rattle.rules.specs.Promises.{SessionRefusedWhen, SessionRefusedKeeps, SessionAnswers, SlotAsTold, OneKeyForAKeyUid, CountAsTold, NeverUnsound}
@@ -211,7 +212,8 @@ held-is : (c : List ℕ) (x : Contents) → held c ≡ holding x → (loaded c �
 unfolding held
 held-is c x e = by (empty c) refl e
   where
-    by : (b : Bool) → empty c ≡ b → cond b nothing (holding (contentsOf c)) ≡ holding x → (loaded c ≡ true) × ((uidOf c ≡ x .uid) × (keyOf c ≡ x .key))
+    by : (b : Bool) → empty c ≡ b → cond b nothing (holding (contentsOf c)) ≡ holding x
+        → (loaded c ≡ true) × ((uidOf c ≡ x .uid) × (keyOf c ≡ x .key))
     by true p q = absurd (let z : _≡_ {A = ℕ} 0 1 = cc in omega arith)
     by false p q = let z : contentsOf c ≡ x = cc in (ap not p, (ap (λ (y : Contents). y .uid) z, ap (λ (y : Contents). y .key) z))
 
@@ -340,5 +342,7 @@ same-identity-or-never h s line answer (led, is-answer) c reach =
     let passing = passes-when s (wrongKey s c) (done (frameRule s (io c))) (done-io s c) in (
       λ e block v. agrees-then s h k c is m key block (inside block v)
           (right-key-then s c (passing .0 (ap (λ o. o .answer) (sym came) ∙ (sym is-answer ∙ e))) block v),
-      λ d. is-answer ∙ ap (λ o. o .answer) came ∙ passing .1 (then-right-key s c (λ block v. then-agrees s h k c is m key block (inside block v) (d block v))),
+      λ d. is-answer
+          ∙ ap (λ o. o .answer) came
+          ∙ passing .1 (then-right-key s c (λ block v. then-agrees s h k c is m key block (inside block v) (d block v))),
     )

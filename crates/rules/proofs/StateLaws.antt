@@ -35,7 +35,8 @@ module _ (s : State) (rule : Rule) where
   pub obeyed : ((r : Refusal) × (obey s rule ≡ refuse s r)) ⊎ (AllPass (rule .checks) × (obey s rule ≡ done rule))
   obeyed = judged-cases (rule .checks) (refuse s) (done rule)
 
-  settled : (v : Verdict Refusal) (r : Refusal) → accepted (rule .answer) ≡ true → settle v (refuse s) (done rule) .answer ≡ Refused r → v ≡ refused r
+  settled : (v : Verdict Refusal) (r : Refusal) → accepted (rule .answer) ≡ true → settle v (refuse s) (done rule) .answer ≡ Refused r
+      → v ≡ refused r
   settled passed r p e = absurd (accepted-not (rule .answer) r p e)
   settled (refused q) r p e = let z : q ≡ r = cc in ap refused z
 

@@ -1,6 +1,7 @@
 -- One call for one line: 07 0F, 07 0D, 07 0E, then the line. The first three
 -- write nothing; any other answer writes its line, and the output past it stays.
 -- Assumes nothing.
+use mathlib.Core.Bool.{Bool}
 use mathlib.Core.List.{List, [], _∷_, _++_}
 use Prim.Native.Nat.{ℕ}
 use lib.ListN.{length, drop}
@@ -19,12 +20,16 @@ use Rattle.rules.specs.Order.{step}
 unfoldable pub roomFor : List ℕ → ℕ
 roomFor line = answerMost
 
-abbrev pub callChecks : State → ℕ → List ℕ → List (Check Refusal)
-callChecks s room out =
-    07·0F when ltb (length out) room
+-- the three checks of every call; `short` says that the output has too little room
+abbrev pub admission : Bool → State → List (Check Refusal)
+admission short s =
+    07·0F when short
     ∷ 07·0D when wrongStore (s .marks)
     ∷ 07·0E when unsound s
     ∷ []
+
+abbrev pub callChecks : State → ℕ → List ℕ → List (Check Refusal)
+callChecks s room out = admission (ltb (length out) room) s
 
 -- a text at the front of the output, the rest as it was
 abbrev pub written : List ℕ → List ℕ → List ℕ

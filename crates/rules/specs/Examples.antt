@@ -61,7 +61,8 @@ L = "2222222222222222222222222222222222222222222222222222222222222222"
 -- an I/O line: opcode, namespace, first block, count field, tag; CETYPE 1, all else zero
 abbrev pub command : String → String → String → String → String → String
 command opcode ns first more tag =
-    "07" ⁀ opcode ⁀ "000000" ⁀ ns ⁀ "0000000000000000000000000000000000000000000000000000000000000000" ⁀ first ⁀ more ⁀ "0100" ⁀ tag ⁀ "00000000000000000000"
+    "07" ⁀ opcode ⁀ "000000" ⁀ ns ⁀ "0000000000000000000000000000000000000000000000000000000000000000"
+    ⁀ first ⁀ more ⁀ "0100" ⁀ tag ⁀ "00000000000000000000"
 
 unfoldable pub table : List (List Entry)
 table =

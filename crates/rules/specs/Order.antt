@@ -14,7 +14,8 @@ use Rattle.rules.specs.declared.Refusal.{Refusal}
 use Rattle.rules.specs.declared.Answer.the-variants.{Done, LockStates}
 use Rattle.rules.specs.Numbers.{blocksEach, poolSlots, tagsMost, markWidth}
 use Rattle.rules.specs.Checks.{Check, _when_, onlyIf, AllPass}
-use Rattle.rules.specs.Answers.{00·01, 00·02, 00·0B, 00·25, 00·28, 00·80, 01·0E, 01·1E, 07·01, 07·02, 07·05, 07·06, 07·07, 07·08, 07·09, 07·0A}
+use Rattle.rules.specs.Answers.{00·01, 00·02, 00·0B, 00·25, 00·28, 00·80, 01·0E, 01·1E, 07·01}
+use Rattle.rules.specs.Answers.{07·02, 07·05, 07·06, 07·07, 07·08, 07·09, 07·0A}
 use Rattle.rules.specs.Answers.{07·0B, 07·0C}
 use Rattle.rules.specs.FrameLine.{isFrameLine, decoded}
 use Rattle.rules.specs.State.{State, Outcome, Rule, obey, noNamespace, managed, tagAbove, total}
@@ -65,16 +66,22 @@ clearAll s ns = record {
   effect = emptySlots s ns;
 }
 
+-- load, replace and clear one begin with 00 0B, 07 06, 00 25
+abbrev pub slotChecks : State → Namespace → Tag → List (Check Refusal)
+slotChecks s ns tag =
+    00·0B when noNamespace ns
+    ∷ 07·06 when not (managed s ns)
+    ∷ 00·25 when tagAbove s ns tag
+    ∷ []
+
 -- load: 00 0B, 07 06, 00 25, 07 09, 07 0C
 unfoldable pub load : State → Namespace → Tag → Contents → Rule
 load s ns tag x = record {
   checks =
-      00·0B when noNamespace ns
-      ∷ 07·06 when not (managed s ns)
-      ∷ 00·25 when tagAbove s ns tag
-      ∷ 07·09 when loaded (slot s ns tag)
+      slotChecks s ns tag
+      ++ (07·09 when loaded (slot s ns tag)
       ∷ 07·0C when otherKey (s .keys) x
-      ∷ [];
+      ∷ []);
   answer = Done;
   effect = storeKey s ns tag x;
 }
@@ -83,13 +90,11 @@ load s ns tag x = record {
 unfoldable pub replace : State → Namespace → Tag → List ℕ → Contents → Rule
 replace s ns tag old x = record {
   checks =
-      00·0B when noNamespace ns
-      ∷ 07·06 when not (managed s ns)
-      ∷ 00·25 when tagAbove s ns tag
-      ∷ 07·0A when empty (slot s ns tag)
+      slotChecks s ns tag
+      ++ (07·0A when empty (slot s ns tag)
       ∷ 07·0B when not (same (uidOf (slot s ns tag)) old)
       ∷ 07·0C when otherKey (s .keys) x  -- of every loaded slot, this one too
-      ∷ [];
+      ∷ []);
   answer = Done;
   effect = storeKey s ns tag x;
 }
@@ -98,11 +103,9 @@ replace s ns tag old x = record {
 unfoldable pub clearOne : State → Namespace → Tag → Rule
 clearOne s ns tag = record {
   checks =
-      00·0B when noNamespace ns
-      ∷ 07·06 when not (managed s ns)
-      ∷ 00·25 when tagAbove s ns tag
-      ∷ 07·0A when empty (slot s ns tag)
-      ∷ [];
+      slotChecks s ns tag
+      ++ (07·0A when empty (slot s ns tag)
+      ∷ []);
   answer = Done;
   effect = emptySlot s ns tag;
 }
@@ -118,11 +121,15 @@ isWrite c = eqb (c .opcode) 0x01
 abbrev pub isReading : Command → Bool
 isReading c = eqb (c .opcode) 0x02 || eqb (c .opcode) 0x05 || eqb (c .opcode) 0x0C
 
+-- the covered blocks reach past the namespace's
+abbrev pub outOfRange : Command → Bool
+outOfRange c = ltb blocksEach (c .first + c .more + 1)
+
 abbrev pub commandChecks : Command → List (Check Refusal)
 commandChecks c =
     00·01 when not (isWrite c || isReading c)
     ∷ 00·0B when noNamespace (c .ns)
-    ∷ 00·80 when ltb blocksEach (c .first + c .more + 1)
+    ∷ 00·80 when outOfRange c
     ∷ []
 
 abbrev pub keyChecks : State → Command → List (Check Refusal)

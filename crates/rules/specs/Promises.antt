@@ -19,7 +19,8 @@ use Rattle.rules.specs.declared.Answer.the-variants.{Done, Refused}
 use Rattle.rules.specs.Numbers.{namespaces, poolSlots, tagsMost}
 use Rattle.rules.specs.Checks.{Check, AllPass, FirstToFail}
 use Rattle.rules.specs.Answers.{refusalNumber, answerLine, lineFeed, accepted}
-use Rattle.rules.specs.Answers.{00·01, 00·02, 00·0B, 00·25, 00·28, 00·80, 01·0E, 01·1E, 07·01, 07·02, 07·03, 07·04, 07·05, 07·06, 07·07, 07·08}
+use Rattle.rules.specs.Answers.{00·01, 00·02, 00·0B, 00·25, 00·28, 00·80, 01·0E, 01·1E, 07·01}
+use Rattle.rules.specs.Answers.{07·02, 07·03, 07·04, 07·05, 07·06, 07·07, 07·08}
 use Rattle.rules.specs.Answers.{07·09, 07·0A, 07·0B, 07·0C, 07·0D, 07·0E, 07·0F}
 use Rattle.rules.specs.State.{State, Outcome, Sized, IsNamespace, count, managed}
 use Rattle.rules.specs.Slots.{IsSlot, Contents, slot, nothing, holding, held}

@@ -181,7 +181,8 @@ module _ {image : List ℕ} {none : Bool} {at : ℕ} (lends : Lends image none a
       let rest = ap length (lent-rest at image) ∙ length-drop at image in
       ap length (back-rest at keys image) ∙ length-append (take at image) keys ∙ omega arith
 
-  back-saved : (s : State) → length (s .keys) ≡ length (lentFrom at image) → savedOver none (s .registers) (backFrom at image (s .keys)) ≡ saved none image s
+  back-saved : (s : State) → length (s .keys) ≡ length (lentFrom at image)
+      → savedOver none (s .registers) (backFrom at image (s .keys)) ≡ saved none image s
   back-saved s same =
       ap (savedOver none (s .registers)) (back-rest at (s .keys) image ∙ ap (λ (n : ℕ). take n image ++ s .keys) (lends .place))
       ∙ over none image s (lends .size) (same ∙ ap length lent-keys)
@@ -203,7 +204,8 @@ module _ {at : ℕ} (image marks : List ℕ) where
       let lends = start-lends image place in
       rw (m, l .1 ∙ back-saved lends (o .state) (l .0), done ∙ ap (λ k. start k marks) (lent-keys lends))
 
-  module _ {none : Bool} {registers : Registers} (is : none ≡ noImage image) (place : at ≡ keysAt none image) (were : registers ≡ registersIn none image) where
+  module _ {none : Bool} {registers : Registers} (is : none ≡ noImage image)
+      (place : at ≡ keysAt none image) (were : registers ≡ registersIn none image) where
     abbrev lentState : State
     lentState = record { registers = registers; keys = lentFrom at image; marks = marks }
 

@@ -15,7 +15,8 @@ use Rattle.digits.proofs.decode.Tie as tie
 
 abbrev Inv-loop : tie.InvT-loop
 Inv-loop line frame₀ n i₀ frame i =
-    (frame ≡ decoded (take (i * 2) line) ++ drop i frame₀) × CleanTo line (i * 2) × (i ≤ n) × (n ≡ length line / 2) × (length frame ≡ length frame₀)
+    (frame ≡ decoded (take (i * 2) line) ++ drop i frame₀)
+    × CleanTo line (i * 2) × (i ≤ n) × (n ≡ length line / 2) × (length frame ≡ length frame₀)
 
 abbrev μ-loop : tie.MeasureT-loop
 μ-loop line frame₀ n i₀ frame i = n - i

@@ -170,7 +170,8 @@ module _ {M : Type 1} (𝓤 : URA M) (H : Heap 𝓤) (A : Atoms 𝓤) (W : Given
   goes = (goes-ref 𝓤 H A W 1 0 tt (plain (λ _. T.the-row)), (goes-none 𝓤 H A W 1 (λ _. u32) yes (λ κs x f. refl), tt))
 
 set-locks-meets : {M : Type 1} (𝓤 : URA M) (H : Heap 𝓤) (A : Atoms 𝓤) → Given 𝓤 H A
-    → (at-mem : Memory → SProp 𝓤) (run : Routine → Fun 𝓤) (𝓣 : Tables 𝓤 H) → Triple 𝓤 (𝓣 .C #locks·decide) (Decide 𝓤 H A at-mem run)
+    → (at-mem : Memory → SProp 𝓤) (run : Routine → Fun 𝓤) (𝓣 : Tables 𝓤 H)
+    → Triple 𝓤 (𝓣 .C #locks·decide) (Decide 𝓤 H A at-mem run)
     → Meets 𝓤 H A set-locks.signature (WpFn 𝓤 H (𝓣 .C) (𝓣 .Λ) code.function) (set-locks.spec 𝓤 H A at-mem run)
 set-locks-meets 𝓤 H A W at-mem run 𝓣 known = walk-meets 𝓤 H A set-locks.ended stayed W (goes 𝓤 H A W at-mem run)
     (set-locks.clauses 𝓤 H A at-mem run) (WpFn 𝓤 H (𝓣 .C) (𝓣 .Λ) code.function) (WpFn-mono 𝓤 H (W .laws) 𝓣 code.function)

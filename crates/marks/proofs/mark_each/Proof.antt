@@ -13,7 +13,8 @@ use Rattle.marks.proofs.mark_each.Statement.{statement}
 use Rattle.marks.proofs.mark_each.Tie as tie
 
 abbrev Inv-loop : tie.InvT-loop
-Inv-loop marks₀ first n identity own k₀ marks k = (k ≤ n) × (own ≡ identity) × (marks ≡ fill markWidth first k identity marks₀) × (length marks ≡ length marks₀)
+Inv-loop marks₀ first n identity own k₀ marks k =
+    (k ≤ n) × (own ≡ identity) × (marks ≡ fill markWidth first k identity marks₀) × (length marks ≡ length marks₀)
 
 abbrev μ-loop : tie.MeasureT-loop
 μ-loop marks₀ first n identity own k₀ marks k = n - k
@@ -42,7 +43,8 @@ loop-again c =
     let own = at-copy .copy .last .0 in
     let width : a + markWidth - a ≡ length own = (omega arith) ∙ sym (ap length (l .inv .1) ∙ full) in
     let set = back-put markWidth (s .first + l .k) (at-copy2 .copy2 .last .0) (l .marks)
-    ∙ ap (λ v. put markWidth (s .first + l .k) v (l .marks)) (at-copy2 .copy2 .ensures ∙ copied a (a + markWidth) (l .marks) own inside width ∙ l .inv .1)
+    ∙ ap (λ v. put markWidth (s .first + l .k) v (l .marks))
+    (at-copy2 .copy2 .ensures ∙ copied a (a + markWidth) (l .marks) own inside width ∙ l .inv .1)
     ∙ ap (put markWidth (s .first + l .k) (s .identity .now)) (l .inv .2)
     ∙ fill-next markWidth (s .first) (l .k) (s .identity .now) (s .marks .now) fits full in
     (more, l .inv .1, set, ap length set ∙ length-fill markWidth (s .first) (l .k + 1) (s .identity .now) (s .marks .now) fits full)
