@@ -30,7 +30,7 @@
  * What the caller promises, since no function can check it:
  *
  *   - Every pointer may be read, and if it is not to const also written, for all of its length. `lines` and `written`
- *     point to a size_t each.
+ *     point to a size_t each, and `fields` is aligned as C aligns a uint32_t.
  *   - No buffer overlaps another, nor `lines` or `written`.
  *   - No pointer is null. Where a length is 0 nothing is read or written there; still pass some address.
  *   - Nothing else touches the buffers during a call. Calls on different buffers may run at the same time.
@@ -39,7 +39,7 @@
  *
  *   - A refusal changes neither image nor marks (one exception: tuffaleen_start with a wrong store).
  *   - Beyond the bytes written, an output keeps what it held. Nothing outside the given lengths is touched.
- *   - Every call ends, and needs no alignment of any buffer.
+ *   - Every call ends, and needs no alignment of any buffer of bytes.
  */
 #ifndef TUFFALEEN_H
 #define TUFFALEEN_H
@@ -61,7 +61,8 @@ extern "C" {
 /* Sizes in bytes. */
 #define TUFFALEEN_IMAGE_BYTES 6278   /* an image, exactly */
 #define TUFFALEEN_MARKS_BYTES 9216   /* a mark store, exactly */
-#define TUFFALEEN_ANSWER_BYTES 13    /* the output that a call must have room for, for each line it is given */
+#define TUFFALEEN_ANSWER_BYTES 13    /* the output that a call must have room for, for each line but the line 0C */
+#define TUFFALEEN_DISCOVERY_BYTES 229 /* the same for the line 0C, which asks for discovery */
 #define TUFFALEEN_LINE_BYTES 140     /* the longest frame line, without its line feed */
 
 /*
@@ -111,7 +112,61 @@ enum tuffaleen_answer {
     TUFFALEEN_OTHER_KEY = 0x070C,           /* a loaded slot has this KeyUID and another key */
     TUFFALEEN_STORE_LENGTH = 0x070D,        /* store not of TUFFALEEN_MARKS_BYTES */
     TUFFALEEN_UNSOUND_STATE = 0x070E,       /* image of another length, or not sound */
-    TUFFALEEN_OUTPUT_TOO_SHORT = 0x070F     /* less than TUFFALEEN_ANSWER_BYTES for each line */
+    TUFFALEEN_OUTPUT_TOO_SHORT = 0x070F,    /* less than the lines may need, or fewer places than there are fields */
+    TUFFALEEN_NOT_A_RESPONSE = 0x0716       /* tuffaleen_discovery alone: data that is no discovery response */
+};
+
+/*
+ * The places of what tuffaleen_discovery finds, one number for each field of a discovery response, in the order of 001,
+ * section 3.1.1 (docs/DISCOVERY.md has each field's bytes and bits). A feature that was found has 1 at its place
+ * _FOUND and its fields behind it; one that is absent has 0 at all of them.
+ */
+enum tuffaleen_discovery_field {
+    TUFFALEEN_DATA_STRUCTURE_REVISION = 0,
+    TUFFALEEN_VENDOR_SPECIFIC = 1,                 /* 32 places, a byte each */
+
+    TUFFALEEN_TPER_FOUND = 33,
+    TUFFALEEN_TPER_VERSION = 34,
+    TUFFALEEN_COM_ID_MGMT_SUPPORTED = 35,
+    TUFFALEEN_STREAMING_SUPPORTED = 36,
+    TUFFALEEN_BUFFER_MGMT_SUPPORTED = 37,
+    TUFFALEEN_ACK_NACK_SUPPORTED = 38,
+    TUFFALEEN_ASYNC_SUPPORTED = 39,
+    TUFFALEEN_SYNC_SUPPORTED = 40,
+
+    TUFFALEEN_KEY_PER_IO_FOUND = 41,
+    TUFFALEEN_FEATURE_DESCRIPTOR_VERSION = 42,
+    TUFFALEEN_SSC_MINOR_VERSION = 43,
+    TUFFALEEN_PROTOCOL_01_BASE_COM_ID = 44,
+    TUFFALEEN_PROTOCOL_01_NUMBER_OF_COM_IDS = 45,
+    TUFFALEEN_PROTOCOL_03_BASE_COM_ID = 46,
+    TUFFALEEN_PROTOCOL_03_NUMBER_OF_COM_IDS = 47,
+    TUFFALEEN_INITIAL_PIN_INDICATOR = 48,
+    TUFFALEEN_BEHAVIOR_OF_PIN_UPON_REVERT = 49,
+    TUFFALEEN_NUMBER_OF_ADMIN_AUTHORITIES = 50,
+    TUFFALEEN_REPLAY_PROTECTION_ENABLED = 51,
+    TUFFALEEN_REPLAY_PROTECTION_SUPPORTED = 52,
+    TUFFALEEN_INCORRECT_KEY_DETECTION_SUPPORTED = 53,
+    TUFFALEEN_SHARED_TWEAK_KEY_REQUIRED = 54,
+    TUFFALEEN_SCOPE = 55,
+    TUFFALEEN_ENABLED = 56,
+    TUFFALEEN_MAXIMUM_KEY_UID_LENGTH = 57,
+    TUFFALEEN_KMIP_KEY_INJECTION_SUPPORTED = 58,
+    TUFFALEEN_RSA_OAEP_SUPPORTED = 59,
+    TUFFALEEN_AES_GCM_SUPPORTED = 60,
+    TUFFALEEN_AES_KW_SUPPORTED = 61,
+    TUFFALEEN_AES_256_WRAPPING_KEY_SUPPORTED = 62,
+    TUFFALEEN_RSA4K_WRAPPING_KEY_SUPPORTED = 63,
+    TUFFALEEN_RSA3K_WRAPPING_KEY_SUPPORTED = 64,
+    TUFFALEEN_RSA2K_WRAPPING_KEY_SUPPORTED = 65,
+    TUFFALEEN_PKI_KEK_TRANSPORT_SUPPORTED = 66,
+    TUFFALEEN_PLAINTEXT_KEK_PROVISIONING_SUPPORTED = 67,
+    TUFFALEEN_NUMBER_OF_KEY_ENCRYPTION_KEYS = 68,
+    TUFFALEEN_TOTAL_NUMBER_OF_KEY_TAGS = 69,
+    TUFFALEEN_MAXIMUM_KEY_TAGS_PER_NAMESPACE = 70,
+    TUFFALEEN_NONCE_LENGTH = 71,
+
+    TUFFALEEN_DISCOVERY_FIELDS = 72                /* how many places there are */
 };
 
 /*
@@ -126,13 +181,13 @@ uint16_t tuffaleen_start(uint8_t *image, size_t image_len, uint8_t *marks, size_
 
 /*
  * Answers one frame line, given without its line feed. Returns the answer's number; at `out` the same number stands
- * as four uppercase digits, for Get Features followed by the eight of its data, and a line feed. `*written` is how
- * many bytes that is: 5 or 13.
+ * as four uppercase digits, for Get Features followed by the eight of its data, for discovery (the line 0C) by the 224
+ * of its response, and a line feed. `*written` is how many bytes that is: 5, 13 or 229.
  *
  * Three answers refuse the call, not the line, and are looked for first and in this order. With these nothing is
  * written at `out`, and `*written` is 0:
  *
- *   TUFFALEEN_OUTPUT_TOO_SHORT   out_len below 13
+ *   TUFFALEEN_OUTPUT_TOO_SHORT   out_len below 229 for the line 0C, below 13 for any other
  *   TUFFALEEN_STORE_LENGTH       marks_len other than 9216
  *   TUFFALEEN_UNSOUND_STATE      image_len other than 6278; a lock byte outside 1 to 3; a tag count above 32, a sum
  *                                of them above 64; a slot that is loaded at an unallocated tag, has a KeyUID length
@@ -148,11 +203,27 @@ uint16_t tuffaleen_line(uint8_t *image, size_t image_len, uint8_t *marks, size_t
  * and an empty text has no lines. The answers stand at `out` one after the other.
  *
  * Returns TUFFALEEN_DONE, whatever the single answers are, with `*lines` the lines answered and `*written` the bytes
- * written; or one of the three refusals of tuffaleen_line, with both 0. The output needs 13 bytes for each line.
+ * written; or one of the three refusals of tuffaleen_line, with both 0. The output needs 229 bytes for each line that
+ * is just 0C and 13 for each other.
  */
 uint16_t tuffaleen_session(uint8_t *image, size_t image_len, uint8_t *marks, size_t marks_len,
                            const uint8_t *text, size_t text_len,
                            uint8_t *out, size_t out_len, size_t *lines, size_t *written);
+
+/*
+ * For a host: what stands in a drive's discovery response (112 bytes from ours; any bytes may be given). It needs
+ * neither image nor marks. Features of other codes, higher versions and bytes behind the response are passed over; of
+ * two features of one code the first counts, and one that is too short is absent. fields_len counts numbers.
+ *
+ * The two refusals are looked for in this order, and with them nothing is written:
+ *
+ *   TUFFALEEN_OUTPUT_TOO_SHORT   fields_len below TUFFALEEN_DISCOVERY_FIELDS
+ *   TUFFALEEN_NOT_A_RESPONSE     the data is shorter than the header, its length ends inside the header or past the
+ *                                data, or a feature's head or length runs past that
+ *
+ * Else TUFFALEEN_DONE: the numbers stand at the first TUFFALEEN_DISCOVERY_FIELDS places, and what is behind stays.
+ */
+uint16_t tuffaleen_discovery(const uint8_t *data, size_t data_len, uint32_t *fields, size_t fields_len);
 
 #ifdef __cplusplus
 }

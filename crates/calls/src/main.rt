@@ -11,8 +11,8 @@ mod show;
 mod text;
 
 use libc::STDIN_FILENO;
-use rules::ANSWER_MOST;
 use rules::CACHE_SIZE;
+use rules::DISCOVERY_MOST;
 use rules::Registers;
 use rules::STORE_SIZE;
 
@@ -23,7 +23,7 @@ const INPUT: usize = 16384;
 pub const MOST: usize = STORE_SIZE + 1;
 
 // The longest output that is lent: some bytes more than the longest answer.
-pub const ROOM: usize = ANSWER_MOST + 7;
+pub const ROOM: usize = DISCOVERY_MOST + 7;
 
 pub type Cache = [u8; CACHE_SIZE];
 

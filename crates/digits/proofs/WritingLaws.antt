@@ -12,7 +12,13 @@ use lib.Seq.{take-suc, length-take-le}
 use lib.Dec.{leb}
 use borrow.Author.Tests.{le-leb, lt-leb}
 use Rattle.cells.proofs.CellsLaws.{grow}
+use Rattle.cells.specs.Cells.{zeros}
 use Rattle.rules.specs.declared.Answer.{Answer}
+use Rattle.rules.specs.declared.Answer.the-variants.{Discovery}
+use Rattle.rules.specs.declared.DiscoveryFields.{DiscoveryFields}
+use Rattle.rules.specs.Numbers.{discoverySize}
+use Rattle.rules.specs.Discovery.{headerBytes, tperBytes, keyPerIoBytes, response, ownHeader, ownTper, ownKeyPerIo, ownFields}
+use Rattle.rules.specs.Discovering.{respond}
 use Rattle.rules.specs.Answers.{answerBytes, answerLine, digitOf, digitsOf, lineFeed}
 use Rattle.digits.specs.Digits.{Wrote, wrote}
 
@@ -74,3 +80,15 @@ unfolding wrote
 wrote-fits a out =
     let size = length-append (answerLine a) (drop (length (answerLine a)) out) in
     fits-either (leb (length (answerLine a)) (length out)) _ _ (omega arith) (omega arith)
+
+-- ------------------------------------------------------------------------
+-- Discovery: 0000, and the response behind it
+
+pub discovery-bytes : (f : DiscoveryFields) (x : List ℕ) → f ≡ ownFields → x ≡ respond f (zeros discoverySize) .out
+    → answerBytes Discovery ≡ 0 ∷ 0 ∷ (x ++ [])
+unfolding respond response headerBytes tperBytes keyPerIoBytes ownFields ownHeader ownTper ownKeyPerIo zeros
+discovery-bytes f x is e = rw (e, is)
+
+pub discovery-length : length (answerBytes Discovery) ≡ 2 + discoverySize
+unfolding response headerBytes tperBytes keyPerIoBytes ownFields ownHeader zeros
+discovery-length = refl

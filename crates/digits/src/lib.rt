@@ -10,10 +10,14 @@ ghost use Rattle.digits.specs.Digits.{readInto, wrote};
 ghost use Rattle.digits.specs.Decoding.{Valued, allDigits, framed};
 use rules::Answer;
 use rules::DIGITS_MOST;
+use rules::DISCOVERY_SIZE;
 use rules::FRAME_MOST;
 use rules::LineRead;
 use rules::Refusal;
 use std::num::wrapping_sub_u8;
+
+// The bytes of an answer's number.
+const NUMBER_SIZE: usize = 2;
 
 // A digit's value; above 15 for a byte that is no digit. Compiled, it has no branch.
 fn value(d: u8) -> u8
@@ -139,6 +143,7 @@ fn refusal_number(refusal: Refusal) -> u16
         Refusal::WrongStore => 0x070D,
         Refusal::UnsoundState => 0x070E,
         Refusal::OutputTooShort => 0x070F,
+        Refusal::NotAResponse => 0x0716,
     }
 }
 
@@ -149,6 +154,7 @@ pub fn number(answer: Answer) -> u16
     match answer {
         Answer::Done => 0,
         Answer::LockStates(_) => 0,
+        Answer::Discovery => 0,
         Answer::Refused(refusal) => refusal_number(refusal),
     }
 }
@@ -195,6 +201,16 @@ fn write_line(bytes: &[u8], out: &mut [u8]) -> usize
     n + 1
 }
 
+// Writes the line of discovery: 0000 and the response.
+fn write_discovery(out: &mut [u8]) -> usize
+    ensures { λ r. ⌜ record { bytes = r; out = now (out .exit) } ≡ wrote Answer.Discovery (now (out .entry)) ⌝ }
+{
+    let mut bytes = [0u8; NUMBER_SIZE + DISCOVERY_SIZE];
+    let fields = discovery::own_fields();
+    discovery::write(fields, &mut bytes[NUMBER_SIZE..]);
+    write_line(&bytes, out)
+}
+
 // Writes the answer's line to the front of the output, and says how many bytes it has; 0 where there is no room.
 pub fn write_answer(answer: Answer, out: &mut [u8]) -> usize
     ensures { λ r. ⌜ record { bytes = r; out = now (out .exit) } ≡ wrote answer (now (out .entry)) ⌝ }
@@ -215,6 +231,7 @@ pub fn write_answer(answer: Answer, out: &mut [u8]) -> usize
             ];
             write_line(&bytes, out)
         }
+        Answer::Discovery => write_discovery(out),
         Answer::Refused(refusal) => {
             let n = refusal_number(refusal);
             let bytes = [(n / 256) as u8, (n % 256) as u8];

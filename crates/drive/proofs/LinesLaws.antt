@@ -2,6 +2,7 @@
 -- answers may need.
 -- Assumes nothing.
 use mathlib.Core.Path.{_≡_, refl, sym, ap, _∙_}
+use mathlib.Core.Bool.{Bool, true, false, cond}
 use mathlib.Core.List.{List, [], _∷_, _++_}
 use mathlib.Core.Logic.{by-cases}
 use Prim.Native.Nat.{ℕ, suc, _+_, _-_, _≤_, _<_}
@@ -14,7 +15,10 @@ use borrow.Author.Tests.{ne-eqb}
 use Rattle.cells.specs.Cells.{part}
 use Rattle.cells.proofs.CellsLaws.{length-part, getD-part}
 use Rattle.rules.specs.Answers.{lineFeed}
-use Rattle.rules.specs.Call.{roomFor}
+use Rattle.cells.specs.Predicates.{same}
+use Rattle.cells.proofs.PredicatesLaws.{same-eq}
+use Rattle.rules.specs.Numbers.{answerMost, discoveryMost}
+use Rattle.rules.specs.Call.{discoveryLine, roomFor}
 use Rattle.rules.specs.Sessions.{joined, linesOf, roomForAll}
 use Rattle.drive.specs.Lines.{NoFeed, LineAt}
 
@@ -114,3 +118,21 @@ pub room-splits : (text : List ℕ) (at end next : ℕ) → LineAt text at end n
     → roomFrom text at ≡ roomFor (part at (end - at) text) + roomFrom text next
 unfolding roomForAll
 room-splits text at end next l = ap roomForAll (l .splits)
+
+-- ------------------------------------------------------------------------
+-- One line's room
+
+pub room-other : (line : List ℕ) → (line ≡ discoveryLine → ⊥) → answerMost ≡ roomFor line
+unfolding roomFor
+room-other line n = by (same line discoveryLine) refl
+  where
+    by : (b : Bool) → same line discoveryLine ≡ b → answerMost ≡ cond b discoveryMost answerMost
+    by true e = absurd (n (same-eq line discoveryLine e))
+    by false e = refl
+
+pub room-discovery : (line : List ℕ) → length line ≡ 2 → getD line 0 0 ≡ 0x30 → getD line 1 0 ≡ 0x43 → discoveryMost ≡ roomFor line
+unfolding roomFor same
+room-discovery [] n a b = absurd (omega arith)
+room-discovery (x ∷ []) n a b = absurd (omega arith)
+room-discovery (x ∷ y ∷ []) n a b = rw (a, b)
+room-discovery (x ∷ y ∷ z ∷ line) n a b = absurd (omega arith)

@@ -3,18 +3,17 @@
 use mathlib.Core.Path.{_≡_}
 use mathlib.Core.Bool.{Bool, true, false, not, _||_, cond}
 use mathlib.Core.List.{List, [], _∷_}
-use Prim.Native.Nat.{ℕ, _+_}
-use lib.Dec.{eqb, leb, ltb}
+use Prim.Native.Nat.{ℕ}
+use lib.Dec.{eqb, leb}
 use Rattle.cells.specs.Cells.{cell, put}
 use Rattle.cells.specs.Predicates.{same}
 use Rattle.rules.specs.declared.Namespace.{Namespace}
 use Rattle.rules.specs.declared.Tag.{Tag}
 use Rattle.rules.specs.declared.Command.{Command}
 use Rattle.rules.specs.declared.Registers.{Registers}
-use Rattle.rules.specs.declared.Refusal.{Refusal}
 use Rattle.rules.specs.declared.Answer.the-variants.{Done}
 use Rattle.rules.specs.Numbers.{slotWidth}
-use Rattle.rules.specs.Checks.{Check, _when_, judged}
+use Rattle.rules.specs.Checks.{_when_, judged}
 use Rattle.rules.specs.Answers.{00·0B, 00·25, 00·80, 07·09, 07·0A, 07·0B, 07·0C}
 use Rattle.rules.specs.State.{State, Sized, Outcome, refuse, obey, noNamespace, managed}
 use Rattle.rules.specs.Slots.{Contents, placeOf, slotBytes, emptied, empty, loaded, uidOf, otherKey}

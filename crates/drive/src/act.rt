@@ -10,7 +10,7 @@ ghost use Rattle.rules.specs.Numbers.{keySize};
 ghost use Rattle.rules.specs.State.{obey};
 ghost use Rattle.rules.specs.Slots.{FitKey};
 ghost use Rattle.rules.specs.Frames.{contentsAt};
-ghost use Rattle.rules.specs.Order.{step, load as loadRule, replace as replaceRule};
+ghost use Rattle.rules.specs.Order.{step, load as loadRule, replace as replaceRule, discovery as discoveryRule};
 ghost use Rattle.frames.specs.Reading.{meant, Lies};
 ghost use Rattle.drive.specs.Acting.{state, outcome, Ready, Sound, acted};
 use crate::Answered;
@@ -19,6 +19,7 @@ use crate::boot;
 use crate::io;
 use crate::keys;
 use frames::FrameRead;
+use rules::Answer;
 use rules::FRAME_MOST;
 use rules::KEY_SIZE;
 use rules::Namespace;
@@ -66,6 +67,17 @@ fn replace(
     keys::replace(registers, keys, ns, tag, &f[5..t], &f[u..v], &f[v..e])
 }
 
+// Discovery: the answer says it all, and nothing changes.
+fn discovery(registers: Registers) -> Answered
+    ensures { λ r. ⌜ ((keys marks : List ℕ) → outcome r keys marks
+        ≡ obey (state registers keys marks) (discoveryRule (state registers keys marks))) ⌝ }
+{
+    Answered {
+        answer: Answer::Discovery,
+        registers,
+    }
+}
+
 // A frame that was read from these bytes, or the refusal of its line.
 fn act(
     registers: Registers,
@@ -90,6 +102,7 @@ fn act(
         FrameRead::GetFeatures => boot::get_features(registers),
         FrameRead::BootWrite(partition) => boot::boot_write(registers, partition),
         FrameRead::Reset(level) => boot::reset(registers, keys, level),
+        FrameRead::Discovery => discovery(registers),
         FrameRead::Refused(r) => refused(registers, r),
     }
 }

@@ -8,6 +8,7 @@ ghost use Rattle.rules.specs.Call.{roomFor};
 ghost use Rattle.rules.specs.Sessions.{linesOf, roomForAll};
 ghost use Rattle.drive.specs.Lines.{stride, NoFeed, LineAt};
 use rules::ANSWER_MOST;
+use rules::DISCOVERY_MOST;
 
 const LINE_FEED: u8 = 10;
 
@@ -68,11 +69,20 @@ pub(crate) fn next_line(text: &[u8], at: usize) -> Line
     Line { end: i, next: i }
 }
 
-// The output bytes that a line's answer may need.
+// The output bytes that a line's answer may need: the line 0C asks for discovery.
 pub(crate) fn room_for(line: &[u8]) -> usize
     ensures { λ r. ⌜ r ≡ roomFor (now (line .entry)) ⌝ }
 {
-    ANSWER_MOST
+    if line.len() != 2 {
+        return ANSWER_MOST;
+    }
+    if line[0] != b'0' {
+        return ANSWER_MOST;
+    }
+    if line[1] != b'C' {
+        return ANSWER_MOST;
+    }
+    DISCOVERY_MOST
 }
 
 // Whether the lines of a text may need more output than this. No sum is made, so that none can wrap.

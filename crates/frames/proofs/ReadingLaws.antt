@@ -85,7 +85,8 @@ module _ (d r : List ℕ) where
   kind-kept (suc (suc (suc (suc (suc (suc (suc (suc (suc zero))))))))) p fit = record { stands = refl; lying = tt }
   kind-kept (suc (suc (suc (suc (suc (suc (suc (suc (suc (suc zero)))))))))) p fit = record { stands = refl; lying = tt }
   kind-kept (suc (suc (suc (suc (suc (suc (suc (suc (suc (suc (suc zero))))))))))) p fit = record { stands = refl; lying = tt }
-  kind-kept (suc (suc (suc (suc (suc (suc (suc (suc (suc (suc (suc (suc k)))))))))))) p fit = absurd (true≢false (p .0))
+  kind-kept (suc (suc (suc (suc (suc (suc (suc (suc (suc (suc (suc (suc zero)))))))))))) p fit = record { stands = refl; lying = tt }
+  kind-kept (suc (suc (suc (suc (suc (suc (suc (suc (suc (suc (suc (suc (suc k))))))))))))) p fit = absurd (true≢false (p .0))
 
   frame-kept : AllPass (readFrame d .checks) → Kept (d ++ r) (readFrame d .frame)
   unfolding readFrame

@@ -18,7 +18,7 @@ use Rattle.rules.specs.Order.{frameOf, readingChecks}
 use Rattle.digits.specs.Digits.{readInto}
 use Rattle.frames.specs.declared.FrameRead.{FrameRead}
 use Rattle.frames.specs.declared.FrameRead.the-variants.{Manage, Release, Load, Replace, ClearOne, ClearAll, Io, SetFeatures, GetFeatures}
-use Rattle.frames.specs.declared.FrameRead.the-variants.{BootWrite, Reset, Refused}
+use Rattle.frames.specs.declared.FrameRead.the-variants.{BootWrite, Reset, Discovery, Refused}
 
 -- a frame's numbers; of a KeyUID its length
 abbrev pub numbersOf : Frame → FrameRead
@@ -33,6 +33,7 @@ numbersOf (frames.setFeatures dword11) = SetFeatures dword11
 numbersOf frames.getFeatures = GetFeatures
 numbersOf (frames.bootWrite partition) = BootWrite partition
 numbersOf (frames.reset level) = Reset level
+numbersOf frames.discovery = Discovery
 numbersOf frames.unknown = Refused 07·02
 
 -- what such a frame stands for, with the bytes that KeyUIDs and key lie in: a frame, or the refusal
@@ -52,6 +53,7 @@ meant f (SetFeatures dword11) = frame (frames.setFeatures dword11)
 meant f GetFeatures = frame frames.getFeatures
 meant f (BootWrite partition) = frame (frames.bootWrite partition)
 meant f (Reset level) = frame (frames.reset level)
+meant f Discovery = frame frames.discovery
 meant f (Refused r) = refusal r
 
 -- a reading's first refusal, or its frame's numbers
@@ -90,4 +92,5 @@ Lies f (SetFeatures dword11) = Unit {0}
 Lies f GetFeatures = Unit {0}
 Lies f (BootWrite partition) = Unit {0}
 Lies f (Reset level) = Unit {0}
+Lies f Discovery = Unit {0}
 Lies f (Refused r) = Unit {0}

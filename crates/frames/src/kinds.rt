@@ -5,7 +5,8 @@ ghost use lib.ListN.{length, take, drop};
 ghost use Rattle.rules.specs.Fields.{byte, bytes};
 ghost use Rattle.rules.specs.State.{namespace, keyTag};
 ghost use Rattle.rules.specs.Frames.{manage as Manage, release as Release, clearOne as ClearOne, clearAll as ClearAll, io as Io, setFeatures as SetFeatures};
-ghost use Rattle.rules.specs.Frames.{getFeatures as GetFeatures, bootWrite as BootWrite, reset as Reset, exactly, readLoad, readReplace, readFrame, commandOf};
+ghost use Rattle.rules.specs.Frames.{getFeatures as GetFeatures, bootWrite as BootWrite, reset as Reset, discovery as Discovery};
+ghost use Rattle.rules.specs.Frames.{exactly, readLoad, readReplace, readFrame, commandOf};
 ghost use Rattle.frames.specs.Reading.{numbered};
 use crate::FrameRead;
 use crate::fields;
@@ -144,7 +145,16 @@ fn reset(f: &[u8]) -> FrameRead
     FrameRead::Reset(f[1])
 }
 
-// The first byte says which of eleven kinds a frame is.
+fn discovery(f: &[u8]) -> FrameRead
+    ensures { λ r. ⌜ r ≡ numbered (exactly 1 (now (f .entry)) Discovery) ⌝ }
+{
+    if f.len() != 1 {
+        return FrameRead::Refused(Refusal::WrongLength);
+    }
+    FrameRead::Discovery
+}
+
+// The first byte says which of twelve kinds a frame is.
 fn by_kind(f: &[u8]) -> FrameRead
     requires { ⌜ 0 < length (now f) ⌝ }
     ensures { λ r. ⌜ r ≡ numbered (readFrame (now (f .entry))) ⌝ }
@@ -162,8 +172,9 @@ fn by_kind(f: &[u8]) -> FrameRead
         0x09 => get_features(f),
         0x0A => boot_write(f),
         0x0B => reset(f),
+        0x0C => discovery(f),
         0x00 => FrameRead::Refused(Refusal::UnknownKind),
-        0x0C..=0xFF => FrameRead::Refused(Refusal::UnknownKind),
+        0x0D..=0xFF => FrameRead::Refused(Refusal::UnknownKind),
     }
 }
 

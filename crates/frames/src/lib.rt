@@ -27,6 +27,7 @@ pub enum FrameRead {
     GetFeatures,
     BootWrite(u8),
     Reset(u8),
+    Discovery,
     Refused(Refusal),
 }
 

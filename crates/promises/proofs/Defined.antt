@@ -6,6 +6,9 @@ use Rattle.cells.proofs.equal.Met as cells-equal
 use Rattle.cells.proofs.all_zero.Met as cells-all-zero
 use Rattle.cells.proofs.zero_part.Met as cells-zero-part
 use Rattle.cells.proofs.same_part.Met as cells-same-part
+use Rattle.discovery.proofs.own_fields.Met as discovery-own-fields
+use Rattle.discovery.proofs.write.Met as discovery-write
+use Rattle.discovery.proofs.read.Met as discovery-read
 use Rattle.digits.proofs.read_line.Met as digits-read-line
 use Rattle.digits.proofs.number.Met as digits-number
 use Rattle.digits.proofs.write_answer.Met as digits-write-answer
@@ -34,6 +37,7 @@ use Rattle.drive.proofs.answer_session.Met as drive-answer-session
 use Rattle.tuffaleen_c.proofs.tuffaleen_start.Met as tuffaleen-c-start
 use Rattle.tuffaleen_c.proofs.tuffaleen_line.Met as tuffaleen-c-line
 use Rattle.tuffaleen_c.proofs.tuffaleen_session.Met as tuffaleen-c-session
+use Rattle.tuffaleen_c.proofs.tuffaleen_discovery.Met as tuffaleen-c-discovery
 use Rattle.promises.specs.Defined.{Defined}
 
 pub defined : {M : Type 1} → Defined M
@@ -44,6 +48,9 @@ defined = record {
   cells-all-zero-ends = cells-all-zero.met;
   cells-zero-part-ends = cells-zero-part.met;
   cells-same-part-ends = cells-same-part.met;
+  discovery-own-fields-ends = discovery-own-fields.met;
+  discovery-write-ends = discovery-write.met;
+  discovery-read-ends = discovery-read.met;
   digits-read-line-ends = digits-read-line.met;
   digits-number-ends = digits-number.met;
   digits-write-answer-ends = digits-write-answer.met;
@@ -72,4 +79,5 @@ defined = record {
   tuffaleen-c-start-ends = tuffaleen-c-start.met;
   tuffaleen-c-line-ends = tuffaleen-c-line.met;
   tuffaleen-c-session-ends = tuffaleen-c-session.met;
+  tuffaleen-c-discovery-ends = tuffaleen-c-discovery.met;
 }

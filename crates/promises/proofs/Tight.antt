@@ -11,15 +11,18 @@ use Rattle.rules.specs.declared.BootLocks.{BootLocks}
 use Rattle.rules.specs.State.{Outcome}
 use Rattle.rules.specs.Call.{Called as CallLeft}
 use Rattle.rules.specs.Sessions.{Session as SessionLeft}
+use Rattle.rules.specs.Discovering.{Responded}
 use Rattle.digits.specs.Digits.{ReadInto, Wrote}
 use Rattle.drive.specs.declared.Answered.{Answered}
 use Rattle.drive.specs.declared.Reply.{Reply}
 use Rattle.drive.specs.declared.SessionReply.{SessionReply}
 use Rattle.frames.specs.Reading.{ReadFrom}
 use Rattle.tuffaleen_c.specs.Image.{CStarted, CCalled, CSession}
+use Rattle.tuffaleen_c.specs.Host.{CDiscovery}
 use Rattle.promises.specs.Tight.{Tight-tuffaleen-c-start, Tight-tuffaleen-c-line, Tight-tuffaleen-c-session}
 use Rattle.promises.specs.Tight.{Tight-cells-fill-zero, Tight-cells-copy, Tight-cells-equal, Tight-cells-all-zero, Tight-cells-zero-part}
 use Rattle.promises.specs.Tight.{Tight-cells-same-part}
+use Rattle.promises.specs.Tight.{Tight-discovery-own-fields, Tight-discovery-write, Tight-discovery-read, Tight-tuffaleen-c-discovery}
 use Rattle.promises.specs.Tight.{Tight-digits-read-line, Tight-digits-number, Tight-digits-write-answer}
 use Rattle.promises.specs.Tight.{Tight-slots-loaded, Tight-slots-holds-uid, Tight-slots-other-key, Tight-slots-unsound, Tight-slots-store}
 use Rattle.promises.specs.Tight.{Tight-slots-clear, Tight-slots-clear-namespace, Tight-slots-clear-all}
@@ -50,6 +53,15 @@ tight-cells-zero-part = (λ κs args. tt, λ κs args r r′ e e′ p q. one p q
 
 pub tight-cells-same-part : Tight-cells-same-part
 tight-cells-same-part = (λ κs args. tt, λ κs args r r′ e e′ p q. one p q)
+
+pub tight-discovery-own-fields : Tight-discovery-own-fields
+tight-discovery-own-fields = (λ κs args. tt, λ κs args r r′ e e′ p q. one p q)
+
+pub tight-discovery-write : Tight-discovery-write
+tight-discovery-write = (λ κs args. tt, λ κs args r r′ e e′ p q. ap (λ (w : Responded). (w .answer, w .out)) (one p q))
+
+pub tight-discovery-read : Tight-discovery-read
+tight-discovery-read = (λ κs args. tt, λ κs args r r′ e e′ p q. one p q)
 
 pub tight-digits-read-line : Tight-digits-read-line
 tight-digits-read-line = (λ κs args. tt, λ κs args r r′ e e′ p q. ap (λ (w : ReadInto). (w .read, w .frame)) (one p q))
@@ -153,3 +165,6 @@ tight-tuffaleen-c-line =
 pub tight-tuffaleen-c-session : Tight-tuffaleen-c-session
 tight-tuffaleen-c-session =
     (λ κs args. tt, λ κs args r r′ e e′ p q. ap (λ (c : CSession). (c .number, (c .image, (c .marks, (c .out, (c .lines, c .bytes)))))) (one p q))
+
+pub tight-tuffaleen-c-discovery : Tight-tuffaleen-c-discovery
+tight-tuffaleen-c-discovery = (λ κs args. tt, λ κs args r r′ e e′ p q. ap (λ (c : CDiscovery). (c .number, c .fields)) (one p q))

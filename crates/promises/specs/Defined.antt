@@ -7,6 +7,9 @@ use Rattle.cells.proofs.equal.Statement as cells-equal
 use Rattle.cells.proofs.all_zero.Statement as cells-all-zero
 use Rattle.cells.proofs.zero_part.Statement as cells-zero-part
 use Rattle.cells.proofs.same_part.Statement as cells-same-part
+use Rattle.discovery.proofs.own_fields.Statement as discovery-own-fields
+use Rattle.discovery.proofs.write.Statement as discovery-write
+use Rattle.discovery.proofs.read.Statement as discovery-read
 use Rattle.digits.proofs.read_line.Statement as digits-read-line
 use Rattle.digits.proofs.number.Statement as digits-number
 use Rattle.digits.proofs.write_answer.Statement as digits-write-answer
@@ -35,6 +38,7 @@ use Rattle.drive.proofs.answer_session.Statement as drive-answer-session
 use Rattle.tuffaleen_c.proofs.tuffaleen_start.Statement as tuffaleen-c-start
 use Rattle.tuffaleen_c.proofs.tuffaleen_line.Statement as tuffaleen-c-line
 use Rattle.tuffaleen_c.proofs.tuffaleen_session.Statement as tuffaleen-c-session
+use Rattle.tuffaleen_c.proofs.tuffaleen_discovery.Statement as tuffaleen-c-discovery
 
 -- Every public function, run on any arguments, ends and leaves what its contract says: its theorem, as the prover states it.
 pub record Defined (M : Type 1) : Type 2 where
@@ -44,6 +48,9 @@ pub record Defined (M : Type 1) : Type 2 where
   pub cells-all-zero-ends : cells-all-zero.statement M
   pub cells-zero-part-ends : cells-zero-part.statement M
   pub cells-same-part-ends : cells-same-part.statement M
+  pub discovery-own-fields-ends : discovery-own-fields.statement M
+  pub discovery-write-ends : discovery-write.statement M
+  pub discovery-read-ends : discovery-read.statement M
   pub digits-read-line-ends : digits-read-line.statement M
   pub digits-number-ends : digits-number.statement M
   pub digits-write-answer-ends : digits-write-answer.statement M
@@ -72,3 +79,4 @@ pub record Defined (M : Type 1) : Type 2 where
   pub tuffaleen-c-start-ends : tuffaleen-c-start.statement M
   pub tuffaleen-c-line-ends : tuffaleen-c-line.statement M
   pub tuffaleen-c-session-ends : tuffaleen-c-session.statement M
+  pub tuffaleen-c-discovery-ends : tuffaleen-c-discovery.statement M

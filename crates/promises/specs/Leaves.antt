@@ -1,5 +1,6 @@
--- What a run of `drive::start`, of `drive::answer_line` (a call for one line) and
--- of `drive::answer_session` leaves: values that meet the function's contract.
+-- What a run of `drive::start`, of `drive::answer_line` (a call for one line), of
+-- `drive::answer_session`, and of `discovery::write` and `discovery::read` leaves:
+-- values that meet the function's contract.
 -- In `args` and `exit`, .0 is the first parameter, .1 .0 the second, and so on.
 -- Assumes nothing.
 use mathlib.Core.Path.{_≡_}
@@ -9,6 +10,11 @@ use denote.Ref.{now}
 use Rattle.rules.specs.State.{State, Outcome}
 use Rattle.rules.specs.Call.{Called}
 use Rattle.rules.specs.Sessions.{Session}
+use Rattle.rules.specs.declared.DiscoveryFields.{DiscoveryFields}
+use Rattle.rules.specs.declared.Discovered.{Discovered}
+use Rattle.rules.specs.Discovering.{Responded}
+use Rattle.discovery.proofs.write.Reads as discovery-write
+use Rattle.discovery.proofs.read.Reads as discovery-read
 use Rattle.drive.specs.Acting.{state, outcome}
 use Rattle.drive.proofs.start.Reads as drive-start
 use Rattle.drive.proofs.answer_line.Reads as drive-answer-line
@@ -56,3 +62,16 @@ pub record SessionLeaves (s : State) (text out : List ℕ) (o : Session) : Type 
     bytes = run .result .bytes;
     out = now (run .exit .1 .1 .1 .1 .0);
   }
+
+-- write(fields, out)
+pub record ResponseLeaves (f : DiscoveryFields) (out : List ℕ) (o : Responded) : Type 0 where
+  pub run : Run discovery-write.Learnt
+  pub on-fields : run .args .0 ≡ f
+  pub on-out : now (run .args .1 .0) ≡ out
+  pub leaves : o ≡ record { answer = run .result; out = now (run .exit .1 .0) }
+
+-- read(bytes)
+pub record ReadFinds (d : List ℕ) (o : Discovered) : Type 0 where
+  pub run : Run discovery-read.Learnt
+  pub on-bytes : now (run .args .0) ≡ d
+  pub leaves : o ≡ run .result

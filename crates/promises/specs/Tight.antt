@@ -16,6 +16,8 @@ use borrow.Fn.World.{World, ArgsD}
 use Rattle.rules.specs.declared.Answer.{Answer}
 use Rattle.rules.specs.declared.BootLocks.{BootLocks}
 use Rattle.rules.specs.declared.LineRead.{LineRead}
+use Rattle.rules.specs.declared.DiscoveryFields.{DiscoveryFields}
+use Rattle.rules.specs.declared.Discovered.{Discovered}
 use Rattle.locks.specs.declared.Changed.{Changed}
 use Rattle.frames.specs.declared.FrameRead.{FrameRead}
 use Rattle.drive.specs.declared.Answered.{Answered}
@@ -27,6 +29,9 @@ use Rattle.cells.proofs.equal.Reads as cells-equal
 use Rattle.cells.proofs.all_zero.Reads as cells-all-zero
 use Rattle.cells.proofs.zero_part.Reads as cells-zero-part
 use Rattle.cells.proofs.same_part.Reads as cells-same-part
+use Rattle.discovery.proofs.own_fields.Reads as discovery-own-fields
+use Rattle.discovery.proofs.write.Reads as discovery-write
+use Rattle.discovery.proofs.read.Reads as discovery-read
 use Rattle.digits.proofs.read_line.Reads as digits-read-line
 use Rattle.digits.proofs.number.Reads as digits-number
 use Rattle.digits.proofs.write_answer.Reads as digits-write-answer
@@ -55,6 +60,7 @@ use Rattle.drive.proofs.answer_session.Reads as drive-answer-session
 use Rattle.tuffaleen_c.proofs.tuffaleen_start.Reads as tuffaleen-c-start
 use Rattle.tuffaleen_c.proofs.tuffaleen_line.Reads as tuffaleen-c-line
 use Rattle.tuffaleen_c.proofs.tuffaleen_session.Reads as tuffaleen-c-session
+use Rattle.tuffaleen_c.proofs.tuffaleen_discovery.Reads as tuffaleen-c-discovery
 
 -- A function's contract as its callers know it: `asks` is what they must show of the arguments; `tells` what they learn of the arguments,
 -- the result, and what was lent as it is at the exit (exit .0 for the first parameter, exit .1 .0 for the second, and so on). `left` puts
@@ -89,6 +95,15 @@ Tight-cells-zero-part = Tight {Left = List ℕ} cells-zero-part.Asked cells-zero
 
 abbrev pub Tight-cells-same-part : Type 0
 Tight-cells-same-part = Tight {Left = Bool} cells-same-part.Asked cells-same-part.Learnt (λ κs result exit. result)
+
+abbrev pub Tight-discovery-own-fields : Type 0
+Tight-discovery-own-fields = Tight {Left = DiscoveryFields} discovery-own-fields.Asked discovery-own-fields.Learnt (λ κs result exit. result)
+
+abbrev pub Tight-discovery-write : Type 0
+Tight-discovery-write = Tight {Left = Answer × List ℕ} discovery-write.Asked discovery-write.Learnt (λ κs result exit. (result, now (exit .1 .0)))
+
+abbrev pub Tight-discovery-read : Type 0
+Tight-discovery-read = Tight {Left = Discovered} discovery-read.Asked discovery-read.Learnt (λ κs result exit. result)
 
 abbrev pub Tight-digits-read-line : Type 0
 Tight-digits-read-line = Tight {Left = LineRead × List ℕ} digits-read-line.Asked digits-read-line.Learnt (λ κs result exit. (result, now (exit .1 .0)))
@@ -197,3 +212,7 @@ abbrev pub Tight-tuffaleen-c-session : Type 0
 Tight-tuffaleen-c-session =
     Tight {Left = ℕ × (List ℕ × (List ℕ × (List ℕ × (ℕ × ℕ))))} tuffaleen-c-session.Asked tuffaleen-c-session.Learnt
     (λ κs result exit. (result, (now (exit .0), (now (exit .1 .0), (now (exit .1 .1 .1 .0), (now (exit .1 .1 .1 .1 .0), now (exit .1 .1 .1 .1 .1 .0)))))))
+
+abbrev pub Tight-tuffaleen-c-discovery : Type 0
+Tight-tuffaleen-c-discovery =
+    Tight {Left = ℕ × List ℕ} tuffaleen-c-discovery.Asked tuffaleen-c-discovery.Learnt (λ κs result exit. (result, now (exit .1 .0)))

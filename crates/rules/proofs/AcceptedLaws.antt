@@ -21,7 +21,8 @@ use Rattle.rules.specs.Slots.{placeOf, slot, emptied, Held, nothing, hol
 use Rattle.rules.specs.Marks.{mark, neverWritten, identityOf}
 use Rattle.rules.specs.Sound.{someAbove, slotUnsound, unsound}
 use Rattle.rules.specs.declared.Command.{Command}
-use Rattle.rules.specs.Frames.{Frame, manage, release, load, replace, clearOne, clearAll, io, setFeatures, getFeatures, bootWrite, reset, unknown}
+use Rattle.rules.specs.Frames.{Frame, manage, release, load, replace, clearOne, clearAll, io}
+use Rattle.rules.specs.Frames.{setFeatures, getFeatures, bootWrite, reset, discovery, unknown}
 use Rattle.rules.specs.Effects.{setCount, storeKey, emptySlot, emptySlots, emptyAllSlots, zeroMarks, markCovered, onlyWhen}
 use Rattle.rules.specs.Order as order
 use Rattle.rules.specs.Order.{frameRule, isWrite, isReading, commandChecks, keyChecks, markCheck, isPowerCycle, released, powerCycled}
@@ -44,7 +45,7 @@ Passes s f = AllPass (frameRule s f .checks)
 -- the answer to a frame that passes is no refusal
 pub accepts : (s : State) (f : Frame) → accepted (frameRule s f .answer) ≡ true
 unfolding frameRule order.manage order.release order.load order.replace order.clearOne order.clearAll order.command order.setFeatures
-    order.getFeatures order.bootWrite order.reset
+    order.getFeatures order.bootWrite order.reset order.discovery
 accepts s (manage ns tags) = refl
 accepts s (release ns) = refl
 accepts s (load ns tag x) = refl
@@ -56,6 +57,7 @@ accepts s (setFeatures dword11) = refl
 accepts s getFeatures = refl
 accepts s (bootWrite partition) = refl
 accepts s (reset level) = refl
+accepts s discovery = refl
 accepts s unknown = refl
 
 -- what an I/O command's first checks give
@@ -114,7 +116,7 @@ module _ (s : State) (sized : Sized s) (sound : unsound s ≡ false) where
 
     pub untouched : (f : Frame) → Fit f → Passes s f → touches ns tag f ≡ false → slot (effect s f) ns tag ≡ slot s ns tag
     unfolding frameRule order.manage order.release order.load order.replace order.clearOne order.clearAll order.command order.setFeatures
-        order.getFeatures order.bootWrite order.reset setCount zeroMarks markCovered
+        order.getFeatures order.bootWrite order.reset order.discovery setCount zeroMarks markCovered
     untouched (manage n tags) fit p e = refl
     untouched (release n) fit p e = emptied-other s sized n (is-namespace n (p .0)) ns tag is e
     untouched (load n t x) fit p e = store-other s sized n t (named-slot s sound n t (is-namespace n (p .0)) (p .1 .1 .0)) ns tag is x fit e
@@ -130,11 +132,12 @@ module _ (s : State) (sized : Sized s) (sound : unsound s ≡ false) where
     untouched getFeatures fit p e = refl
     untouched (bootWrite partition) fit p e = refl
     untouched (reset level) fit p e = when-kept (isPowerCycle level) (powerCycled s) e
+    untouched discovery fit p e = refl
     untouched unknown fit p e = refl
 
     pub touched : (f : Frame) → Fit f → Passes s f → touches ns tag f ≡ true → slot (effect s f) ns tag ≡ bytesOf (leaves f)
     unfolding frameRule order.manage order.release order.load order.replace order.clearOne order.clearAll order.command order.setFeatures
-        order.getFeatures order.bootWrite order.reset setCount zeroMarks
+        order.getFeatures order.bootWrite order.reset order.discovery setCount zeroMarks
     touched (manage n tags) fit p e = no-keys (ap (count s) (same-namespace ns n e) ∙ unmanaged s n (p .1 .0))
     touched (release n) fit p e = emptied-same s sized n (is-namespace n (p .0)) ns tag is e
     touched (load n t x) fit p e = store-same s sized n t (named-slot s sound n t (is-namespace n (p .0)) (p .1 .1 .0)) ns tag is x fit e
@@ -146,6 +149,7 @@ module _ (s : State) (sized : Sized s) (sound : unsound s ≡ false) where
     touched getFeatures fit p e = never e
     touched (bootWrite partition) fit p e = never e
     touched (reset level) fit p e = when-done (isPowerCycle level) (powerCycled s) emptied e (all-emptied s sized ns tag is)
+    touched discovery fit p e = never e
     touched unknown fit p e = never e
 
     -- a key that is put into a slot: it fits, its tag is allocated, and no loaded slot has its KeyUID and another key
@@ -172,6 +176,7 @@ module _ (s : State) (sized : Sized s) (sound : unsound s ≡ false) where
     storable getFeatures fit p e = tt
     storable (bootWrite partition) fit p e = tt
     storable (reset level) fit p e = tt
+    storable discovery fit p e = tt
     storable unknown fit p e = tt
 
     -- a frame that does not touch a slot leaves its namespace's count
@@ -187,6 +192,7 @@ module _ (s : State) (sized : Sized s) (sound : unsound s ≡ false) where
     untouched-count getFeatures before e = refl
     untouched-count (bootWrite partition) before e = refl
     untouched-count (reset level) before e = refl
+    untouched-count discovery before e = refl
     untouched-count unknown before e = refl
 
   -- ----------------------------------------------------------------------
@@ -204,7 +210,7 @@ module _ (s : State) (sized : Sized s) (sound : unsound s ≡ false) where
 
     pub count-effect : (f : Frame) → Passes s f → count (effect s f) ns ≡ countAfter ns f (count s ns)
     unfolding frameRule order.manage order.release order.load order.replace order.clearOne order.clearAll order.command order.setFeatures
-        order.getFeatures order.bootWrite order.reset storeKey emptySlot emptySlots emptyAllSlots zeroMarks markCovered
+        order.getFeatures order.bootWrite order.reset order.discovery storeKey emptySlot emptySlots emptyAllSlots zeroMarks markCovered
     count-effect (manage n tags) p = set-count n tags (is-namespace n (p .0)) (sameNamespace ns n) refl
     count-effect (release n) p = released-count s n ns ∙ set-count n 0 (is-namespace n (p .0)) (sameNamespace ns n) refl
     count-effect (load n t x) p = refl
@@ -216,6 +222,7 @@ module _ (s : State) (sized : Sized s) (sound : unsound s ≡ false) where
     count-effect getFeatures p = refl
     count-effect (bootWrite partition) p = refl
     count-effect (reset level) p = when-count (isPowerCycle level) (powerCycled s) refl
+    count-effect discovery p = refl
     count-effect unknown p = refl
 
   -- the counts as a list: each at most 32, at most 64 together
@@ -231,7 +238,7 @@ module _ (s : State) (sized : Sized s) (sound : unsound s ≡ false) where
 
   pub counted-effect : (f : Frame) → Passes s f → Counted (effect s f .registers .counts)
   unfolding frameRule order.manage order.release order.load order.replace order.clearOne order.clearAll order.command order.setFeatures
-      order.getFeatures order.bootWrite order.reset setCount storeKey emptySlot emptySlots emptyAllSlots zeroMarks markCovered
+      order.getFeatures order.bootWrite order.reset order.discovery setCount storeKey emptySlot emptySlots emptyAllSlots zeroMarks markCovered
   counted-effect (manage n tags) p =
       let is = is-namespace n (p .0) in
       let l = sized .counts in
@@ -254,6 +261,7 @@ module _ (s : State) (sized : Sized s) (sound : unsound s ≡ false) where
   counted-effect getFeatures p = (sound-counts s sound, sound-total s sound)
   counted-effect (bootWrite partition) p = (sound-counts s sound, sound-total s sound)
   counted-effect (reset level) p = when-counted (isPowerCycle level) (powerCycled s) (sound-counts s sound, sound-total s sound)
+  counted-effect discovery p = (sound-counts s sound, sound-total s sound)
   counted-effect unknown p = (sound-counts s sound, sound-total s sound)
 
   -- ----------------------------------------------------------------------
@@ -274,6 +282,7 @@ module _ (s : State) (sized : Sized s) (sound : unsound s ≡ false) where
     markAfter getFeatures = mark s ns block
     markAfter (bootWrite partition) = mark s ns block
     markAfter (reset level) = mark s ns block
+    markAfter discovery = mark s ns block
     markAfter unknown = mark s ns block
 
     zeroed : (n : Namespace) → IsNamespace n → (b : Bool) → sameNamespace ns n ≡ b
@@ -295,7 +304,7 @@ module _ (s : State) (sized : Sized s) (sound : unsound s ≡ false) where
 
     pub mark-effect : (f : Frame) → Passes s f → mark (effect s f) ns block ≡ markAfter f
     unfolding frameRule order.manage order.release order.load order.replace order.clearOne order.clearAll order.command order.setFeatures
-        order.getFeatures order.bootWrite order.reset setCount storeKey emptySlot emptySlots emptyAllSlots
+        order.getFeatures order.bootWrite order.reset order.discovery setCount storeKey emptySlot emptySlots emptyAllSlots
     mark-effect (manage n tags) p = refl
     mark-effect (release n) p = released-mark s n ns block ∙ zeroed n (is-namespace n (p .0)) (sameNamespace ns n) refl
     mark-effect (load n t x) p = refl
@@ -307,6 +316,7 @@ module _ (s : State) (sized : Sized s) (sound : unsound s ≡ false) where
     mark-effect getFeatures p = refl
     mark-effect (bootWrite partition) p = refl
     mark-effect (reset level) p = when-mark (isPowerCycle level) (powerCycled s) refl
+    mark-effect discovery p = refl
     mark-effect unknown p = refl
 
   -- ----------------------------------------------------------------------
@@ -318,7 +328,7 @@ module _ (s : State) (sized : Sized s) (sound : unsound s ≡ false) where
 
   pub sized-effect : (f : Frame) → Fit f → Passes s f → Sized (effect s f)
   unfolding frameRule order.manage order.release order.load order.replace order.clearOne order.clearAll order.command order.setFeatures
-      order.getFeatures order.bootWrite order.reset
+      order.getFeatures order.bootWrite order.reset order.discovery
   sized-effect (manage ns tags) fit p = sized-count s sized ns tags
   sized-effect (release ns) fit p =
       let is = is-namespace ns (p .0) in
@@ -334,4 +344,5 @@ module _ (s : State) (sized : Sized s) (sound : unsound s ≡ false) where
   sized-effect (reset level) fit p =
       let all = sized-all s sized in
       when-sized (isPowerCycle level) (powerCycled s) (record { counts = all .counts; cache = all .cache; store = all .store })
+  sized-effect discovery fit p = sized
   sized-effect unknown fit p = sized

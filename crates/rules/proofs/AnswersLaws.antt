@@ -2,12 +2,12 @@
 -- shows where it ends, so that the answers to a session can be told apart.
 -- Assumes nothing.
 use mathlib.Core.Path.{_≡_, refl, sym, ap, _∙_}
-use mathlib.Core.Bool.{Bool, true, false, cond}
+use mathlib.Core.Bool.{Bool, true, false, cond, true≢false}
 use mathlib.Core.List.{List, [], _∷_, _++_, append-assoc}
 use mathlib.Core.Logic.{⊎-elim}
 use Prim.Native.Nat.{ℕ, _+_, _*_, _/_, _%_, _^_, _≤_, _<_}
 use native.Mathlib.Omega.{arith}
-use lib.ListN.{length}
+use lib.ListN.{length, length-append}
 use lib.Dec.{eqb, ltb}
 use borrow.Author.Tests.{ltb-true, ltb-false}
 use Rattle.rules.specs.declared.Lock.{Lock}
@@ -17,20 +17,26 @@ use Rattle.rules.specs.declared.Refusal.the-variants.{InvalidOpcode, Inv
 use Rattle.rules.specs.declared.Refusal.the-variants.{BlocksOutOfRange, LockNotChangeable, BootWriteProhibited, NotAFrameLine, UnknownKind}
 use Rattle.rules.specs.declared.Refusal.the-variants.{WrongLength, BadKeyUidLength, AlreadyManaged, NotManaged, BadTagCount, PoolTooSmall}
 use Rattle.rules.specs.declared.Refusal.the-variants.{SlotOccupied, SlotEmpty, OtherOldKeyUid, OtherKey, WrongStore, UnsoundState}
-use Rattle.rules.specs.declared.Refusal.the-variants.{OutputTooShort}
+use Rattle.rules.specs.declared.Refusal.the-variants.{OutputTooShort, NotAResponse}
 use Rattle.rules.specs.declared.Answer.{Answer}
-use Rattle.rules.specs.declared.Answer.the-variants.{Done, LockStates, Refused}
-use Rattle.rules.specs.Numbers.{answerMost}
+use Rattle.rules.specs.declared.Answer.the-variants.{Done, LockStates, Discovery, Refused}
+use Rattle.cells.specs.Cells.{zeros}
+use Rattle.cells.specs.Predicates.{same}
+use Rattle.rules.specs.Numbers.{answerMost, discoverySize, discoveryMost}
+use Rattle.rules.specs.Discovery.{headerBytes, tperBytes, keyPerIoBytes, response, ownHeader, ownFields}
 use Rattle.rules.specs.Answers.{refusalNumber, number, answerData, answerBytes, Sayable, AllSayable, lineFeed, digitOf, digitsOf, answerLine}
 use Rattle.rules.specs.Fields.{little}
 use Rattle.rules.specs.Locks.{lockValue}
 use Rattle.rules.specs.State.{State}
-use Rattle.rules.specs.Frames.{Frame, manage, release, load, replace, clearOne, clearAll, io, setFeatures, getFeatures, bootWrite, reset, unknown}
+use Rattle.rules.specs.Frames.{Frame, manage, release, load, replace, clearOne, clearAll, io}
+use Rattle.rules.specs.Frames.{setFeatures, getFeatures, bootWrite, reset, discovery, unknown}
 use Rattle.rules.specs.Order as order
-use Rattle.rules.specs.Order.{frameRule, frameOf, lineRule, step}
-use Rattle.rules.specs.Call.{roomFor}
+use Rattle.rules.specs.Order.{frameRule, frameOf, readingChecks, lineRule, step}
+use Rattle.rules.specs.Call.{discoveryLine, roomFor}
 use Rattle.rules.specs.Sessions.{answersTo, endState, answerLines}
+use Rattle.rules.proofs.ChecksLaws.{pass-append}
 use Rattle.rules.proofs.StateLaws.{obeyed}
+use Rattle.rules.proofs.FrameLineLaws.{only-line}
 
 -- ------------------------------------------------------------------------
 -- Digits
@@ -69,7 +75,7 @@ digits-then (b ∷ bs) (c ∷ cs) xs ys e =
 
 -- the refusal of the list with this number; the table's last where there is none
 named : List Refusal → ℕ → Refusal
-named [] n = OutputTooShort
+named [] n = NotAResponse
 named (r ∷ more) n = cond (eqb (refusalNumber r) n) r (named more n)
 
 refusalOf : ℕ → Refusal
@@ -77,7 +83,7 @@ refusalOf n =
     named
     (InvalidOpcode ∷ InvalidField ∷ InvalidNamespace ∷ InvalidKeyTag ∷ IncorrectKey ∷ BlocksOutOfRange ∷ LockNotChangeable ∷ BootWriteProhibited
     ∷ NotAFrameLine ∷ UnknownKind ∷ WrongLength ∷ BadKeyUidLength ∷ AlreadyManaged ∷ NotManaged ∷ BadTagCount ∷ PoolTooSmall
-    ∷ SlotOccupied ∷ SlotEmpty ∷ OtherOldKeyUid ∷ OtherKey ∷ WrongStore ∷ UnsoundState ∷ [])
+    ∷ SlotOccupied ∷ SlotEmpty ∷ OtherOldKeyUid ∷ OtherKey ∷ WrongStore ∷ UnsoundState ∷ OutputTooShort ∷ [])
     n
 
 named-back : (r : Refusal) → refusalOf (refusalNumber r) ≡ r
@@ -105,6 +111,7 @@ named-back OtherKey = refl
 named-back WrongStore = refl
 named-back UnsoundState = refl
 named-back OutputTooShort = refl
+named-back NotAResponse = refl
 
 same-refusal : (q r : Refusal) → refusalNumber q ≡ refusalNumber r → q ≡ r
 same-refusal q r e = cc (named-back q, named-back r)
@@ -113,8 +120,8 @@ same-refusal q r e = cc (named-back q, named-back r)
 pub some-number : (r : Refusal) → 0 ≡ refusalNumber r → ⊥
 unfolding refusalOf named
 some-number r e =
-    let last : OutputTooShort ≡ r = ap refusalOf e ∙ named-back r in
-    let n : 0x070F ≡ refusalNumber r = ap refusalNumber last in
+    let last : NotAResponse ≡ r = ap refusalOf e ∙ named-back r in
+    let n : 0x0716 ≡ refusalNumber r = ap refusalNumber last in
     omega arith
 
 -- the data bytes, read as a frame's numbers are
@@ -126,15 +133,39 @@ data-back d l =
     let low : d / 256 ≡ d / 256 % 256 + 256 * (d / 65536) = omega arith in
     omega arith
 
+-- a discovery answer has more data than any other
+data-length : length (answerData Discovery) ≡ discoverySize
+unfolding response headerBytes tperBytes keyPerIoBytes ownFields ownHeader zeros
+data-length = refl
+
+other-length : (a : Answer) → (a ≡ Discovery → ⊥) → length (answerData a) ≤ 4
+other-length Done n = omega arith
+other-length (LockStates d) n = omega arith
+other-length Discovery n = absurd (n refl)
+other-length (Refused r) n = omega arith
+
+most-data : (a : Answer) → length (answerData a) ≤ discoverySize
+most-data Done = omega arith
+most-data (LockStates d) = omega arith
+most-data Discovery = omega (arith, data-length)
+most-data (Refused r) = omega arith
+
 same-answer : (a b : Answer) → Sayable a → Sayable b → number a ≡ number b → answerData a ≡ answerData b → a ≡ b
 same-answer Done Done p q e f = refl
 same-answer Done (LockStates d) p q e f = cc
+same-answer Done Discovery p q e f = absurd (omega (arith, ap length f, data-length))
 same-answer Done (Refused r) p q e f = absurd (some-number r e)
 same-answer (LockStates d) Done p q e f = cc
 same-answer (LockStates c) (LockStates d) p q e f = ap LockStates (sym (data-back c p) ∙ ap little f ∙ data-back d q)
-same-answer (LockStates d) (Refused r) p q e f = cc
+same-answer (LockStates d) Discovery p q e f = absurd (omega (arith, ap length f, data-length))
+same-answer (LockStates d) (Refused r) p q e f = absurd (some-number r e)
+same-answer Discovery Done p q e f = absurd (omega (arith, ap length f, data-length))
+same-answer Discovery (LockStates d) p q e f = absurd (omega (arith, ap length f, data-length))
+same-answer Discovery Discovery p q e f = refl
+same-answer Discovery (Refused r) p q e f = absurd (some-number r e)
 same-answer (Refused r) Done p q e f = absurd (some-number r (sym e))
-same-answer (Refused r) (LockStates d) p q e f = cc
+same-answer (Refused r) (LockStates d) p q e f = absurd (some-number r (sym e))
+same-answer (Refused r) Discovery p q e f = absurd (some-number r (sym e))
 same-answer (Refused q) (Refused r) s t e f = ap Refused (same-refusal q r e)
 
 bytes-then : (a b : Answer) → Sayable a → Sayable b → answerBytes a ≡ answerBytes b → a ≡ b
@@ -163,11 +194,14 @@ lines-then (a ∷ xs) (b ∷ ys) p q e =
     let more = lines-then xs ys (p .1) (q .1) (r .1) in
     cc
 
-pub length-line : (a : Answer) → length (answerLine a) ≤ answerMost
-unfolding answerLine digitsOf
-length-line Done = omega arith
-length-line (LockStates d) = omega arith
-length-line (Refused r) = omega arith
+length-digits : (bs : List ℕ) → length (digitsOf bs) ≡ length bs * 2
+unfolding digitsOf
+length-digits [] = refl
+length-digits (b ∷ bs) = omega (arith, length-digits bs)
+
+length-line : (a : Answer) → length (answerLine a) ≡ (2 + length (answerData a)) * 2 + 1
+unfolding answerLine
+length-line a = simp length-append (omega (arith, length-digits (answerBytes a)))
 
 -- ------------------------------------------------------------------------
 -- What the drive answers can be said: Get Features' data is below 2 ^ 32
@@ -179,7 +213,7 @@ value-small WriteLockedUntilPowerCycle = omega arith
 
 sayable-frame : (s : State) (f : Frame) → Sayable (frameRule s f .answer)
 unfolding frameRule order.manage order.release order.load order.replace order.clearOne order.clearAll
-    order.command order.setFeatures order.getFeatures order.bootWrite order.reset
+    order.command order.setFeatures order.getFeatures order.bootWrite order.reset order.discovery
 sayable-frame s (manage ns tags) = tt
 sayable-frame s (release ns) = tt
 sayable-frame s (load ns tag x) = tt
@@ -191,16 +225,50 @@ sayable-frame s (setFeatures dword11) = tt
 sayable-frame s getFeatures = omega (arith, value-small (s .registers .locks .partition0), value-small (s .registers .locks .partition1))
 sayable-frame s (bootWrite partition) = tt
 sayable-frame s (reset level) = tt
+sayable-frame s discovery = tt
 sayable-frame s unknown = tt
 
 pub sayable-step : (s : State) (line : List ℕ) → Sayable (step s line .answer)
 unfolding lineRule
 sayable-step s line = ⊎-elim (λ r. rw (r .1) tt) (λ p. rw (p .1) (sayable-frame s (frameOf line))) (obeyed s (lineRule s line))
 
+-- only a line that is read as discovery is answered so
+asks : (s : State) (f : Frame) → frameRule s f .answer ≡ Discovery → f ≡ discovery
+unfolding frameRule order.manage order.release order.load order.replace order.clearOne order.clearAll
+    order.command order.setFeatures order.getFeatures order.bootWrite order.reset order.discovery
+asks s (manage ns tags) e = absurd (let z : _≡_ {A = ℕ} 0 1 = cc in omega arith)
+asks s (release ns) e = absurd (let z : _≡_ {A = ℕ} 0 1 = cc in omega arith)
+asks s (load ns tag x) e = absurd (let z : _≡_ {A = ℕ} 0 1 = cc in omega arith)
+asks s (replace ns tag old x) e = absurd (let z : _≡_ {A = ℕ} 0 1 = cc in omega arith)
+asks s (clearOne ns tag) e = absurd (let z : _≡_ {A = ℕ} 0 1 = cc in omega arith)
+asks s (clearAll ns) e = absurd (let z : _≡_ {A = ℕ} 0 1 = cc in omega arith)
+asks s (io c) e = absurd (let z : _≡_ {A = ℕ} 0 1 = cc in omega arith)
+asks s (setFeatures dword11) e = absurd (let z : _≡_ {A = ℕ} 0 1 = cc in omega arith)
+asks s getFeatures e = absurd (let z : _≡_ {A = ℕ} 0 1 = cc in omega arith)
+asks s (bootWrite partition) e = absurd (let z : _≡_ {A = ℕ} 0 1 = cc in omega arith)
+asks s (reset level) e = absurd (let z : _≡_ {A = ℕ} 0 1 = cc in omega arith)
+asks s discovery e = refl
+asks s unknown e = absurd (let z : _≡_ {A = ℕ} 0 1 = cc in omega arith)
+
 -- an answer fits the room that its line is given
-pub answer-fits : (s : State) (line : List ℕ) → length (answerLine (step s line .answer)) ≤ roomFor line
-unfolding roomFor
-answer-fits s line = length-line (step s line .answer)
+module _ (s : State) (line : List ℕ) where
+  discovery-line : step s line .answer ≡ Discovery → line ≡ discoveryLine
+  unfolding lineRule
+  discovery-line e =
+      ⊎-elim
+      (λ r. absurd (let z : _≡_ {A = ℕ} 0 1 = cc in omega arith))
+      (λ p. only-line line (pass-append (readingChecks line) _ (p .0) .0) (asks s (frameOf line) (ap (λ o. o .answer) (sym (p .1)) ∙ e)))
+      (obeyed s (lineRule s line))
+
+  pub answer-fits : length (answerLine (step s line .answer)) ≤ roomFor line
+  unfolding roomFor same
+  answer-fits = by (same line discoveryLine) refl
+    where
+      by : (b : Bool) → same line discoveryLine ≡ b → length (answerLine (step s line .answer)) ≤ cond b discoveryMost answerMost
+      by true e = omega (arith, length-line (step s line .answer), most-data (step s line .answer))
+      by false e =
+          let n : step s line .answer ≡ Discovery → ⊥ = (λ d. true≢false (sym (ap (λ l. same l discoveryLine) (discovery-line d)) ∙ e)) in
+          omega (arith, length-line (step s line .answer), other-length (step s line .answer) n)
 
 pub sayable-answers : (s : State) (lines : List (List ℕ)) → AllSayable (answersTo s lines)
 unfolding answersTo

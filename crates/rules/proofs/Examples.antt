@@ -3,6 +3,7 @@
 use mathlib.Core.Path.{refl}
 use Rattle.cells.specs.Cells.{part, write, zeros, copies, cell, put, fill}
 use Rattle.cells.specs.Predicates.{same, allZero, someFrom, someCell}
+use Rattle.rules.specs.Discovery.{headerBytes, tperBytes, keyPerIoBytes, response, ownHeader, ownTper, ownKeyPerIo, ownFields}
 use Rattle.rules.specs.Answers.{digitsOf, answerLine}
 use Rattle.rules.specs.Fields.{little}
 use Rattle.rules.specs.FrameLine.{firstBad, decoded, lineChecks, readLine}
@@ -11,7 +12,8 @@ use Rattle.rules.specs.Marks.{keptIdentity}
 use Rattle.rules.specs.Sound.{someAbove, slotUnsound, unsound}
 use Rattle.rules.specs.Frames.{commandOf, readLoad, readReplace, kinds, readFrame}
 use Rattle.rules.specs.Effects.{setCount, storeKey, emptySlot, emptySlots, emptyAllSlots, zeroMarks, markCovered}
-use Rattle.rules.specs.Order.{manage, release, clearAll, load, replace, clearOne, wrongKey, command, setFeatures, getFeatures, bootWrite, reset}
+use Rattle.rules.specs.Order.{manage, release, clearAll, load, replace, clearOne, wrongKey, command}
+use Rattle.rules.specs.Order.{setFeatures, getFeatures, bootWrite, reset, discovery}
 use Rattle.rules.specs.Order.{frameRule, lineRule}
 use Rattle.rules.specs.Start.{freshRegisters}
 use Rattle.rules.specs.Call.{roomFor, unanswered, answered, call}
@@ -22,6 +24,7 @@ pub examples-right : ExamplesRight
 unfolding part write zeros copies cell put fill same allZero someFrom someCell digitsOf answerLine firstBad decoded lineChecks readLine little padded
     slotBytes uidOf keyOf held otherKeyIn otherKey keptIdentity someAbove slotUnsound unsound commandOf readLoad readReplace kinds readFrame setCount
     storeKey emptySlot emptySlots emptyAllSlots zeroMarks markCovered manage release clearAll load replace clearOne wrongKey command setFeatures
-    getFeatures bootWrite reset frameRule lineRule freshRegisters roomFor unanswered answered call linesOf endState answersTo answerLines roomForAll
+    headerBytes tperBytes keyPerIoBytes response ownHeader ownTper ownKeyPerIo ownFields
+    getFeatures bootWrite reset discovery frameRule lineRule freshRegisters roomFor unanswered answered call linesOf endState answersTo answerLines roomForAll
     noSession allAnswered session codes right allRight table sessionRight
 examples-right = (refl, refl)

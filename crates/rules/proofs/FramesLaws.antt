@@ -15,7 +15,7 @@ use Rattle.rules.specs.Numbers.{uidMost, keySize}
 use Rattle.rules.specs.Checks.{AllPass}
 use Rattle.rules.specs.Fields.{byte}
 use Rattle.rules.specs.Slots.{FitKey}
-use Rattle.rules.specs.Frames.{Frame, manage, release, load, replace, clearOne, clearAll, io, setFeatures, getFeatures, bootWrite, reset}
+use Rattle.rules.specs.Frames.{Frame, manage, release, load, replace, clearOne, clearAll, io, setFeatures, getFeatures, bootWrite, reset, discovery}
 use Rattle.rules.specs.Frames.{unknown, badUidLength, contentsAt, readLoad, readReplace, unknownKind, kinds, readFrame}
 
 abbrev pub Fit : Frame → Type 0
@@ -30,6 +30,7 @@ Fit (setFeatures dword11) = Unit {0}
 Fit getFeatures = Unit {0}
 Fit (bootWrite partition) = Unit {0}
 Fit (reset level) = Unit {0}
+Fit discovery = Unit {0}
 Fit unknown = Unit {0}
 
 -- a KeyUID of l bytes from a, and the key behind it
@@ -63,7 +64,8 @@ kind-fits f (suc (suc (suc (suc (suc (suc (suc (suc zero)))))))) p = tt
 kind-fits f (suc (suc (suc (suc (suc (suc (suc (suc (suc zero))))))))) p = tt
 kind-fits f (suc (suc (suc (suc (suc (suc (suc (suc (suc (suc zero)))))))))) p = tt
 kind-fits f (suc (suc (suc (suc (suc (suc (suc (suc (suc (suc (suc zero))))))))))) p = tt
-kind-fits f (suc (suc (suc (suc (suc (suc (suc (suc (suc (suc (suc (suc k)))))))))))) p = tt
+kind-fits f (suc (suc (suc (suc (suc (suc (suc (suc (suc (suc (suc (suc zero)))))))))))) p = tt
+kind-fits f (suc (suc (suc (suc (suc (suc (suc (suc (suc (suc (suc (suc (suc k))))))))))))) p = tt
 
 pub fits : (f : List ℕ) → AllPass (readFrame f .checks) → Fit (readFrame f .frame)
 unfolding readFrame

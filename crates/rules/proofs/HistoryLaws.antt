@@ -24,7 +24,8 @@ use Rattle.rules.specs.Slots.{placeOf, slot, emptied, loaded, uidOf, key
 use Rattle.rules.specs.Marks.{blockOf, mark, neverWritten, identityOf}
 use Rattle.rules.specs.Sound.{someAbove, slotUnsound, unsound}
 use Rattle.rules.specs.declared.Command.{Command}
-use Rattle.rules.specs.Frames.{Frame, manage, release, load, replace, clearOne, clearAll, io, setFeatures, getFeatures, bootWrite, reset, unknown}
+use Rattle.rules.specs.Frames.{Frame, manage, release, load, replace, clearOne, clearAll, io}
+use Rattle.rules.specs.Frames.{setFeatures, getFeatures, bootWrite, reset, discovery, unknown}
 use Rattle.rules.specs.Order as order
 use Rattle.rules.specs.Order.{frameRule, frameOf, isWrite, keyChecks, step}
 use Rattle.rules.specs.Start.{freshRegisters, fresh}
@@ -124,6 +125,7 @@ leaves-fit (setFeatures dword11) fit = tt
 leaves-fit getFeatures fit = tt
 leaves-fit (bootWrite partition) fit = tt
 leaves-fit (reset level) fit = tt
+leaves-fit discovery fit = tt
 leaves-fit unknown fit = tt
 
 cond-fit : (b : Bool) (x y : Held) → FitHeld x → FitHeld y → FitHeld (cond b x y)
@@ -143,6 +145,7 @@ written-fit ns block (setFeatures dword11) h x p q = q
 written-fit ns block getFeatures h x p q = q
 written-fit ns block (bootWrite partition) h x p q = q
 written-fit ns block (reset level) h x p q = q
+written-fit ns block discovery h x p q = q
 written-fit ns block unknown h x p q = q
 
 -- the key that a command of a managed namespace names
@@ -267,6 +270,7 @@ module _ (s : State) (h : List Event) (k : Kept s h) (f : Frame) (fit : Fit f) (
     mark-told getFeatures p = before
     mark-told (bootWrite partition) p = before
     mark-told (reset level) p = before
+    mark-told discovery p = before
     mark-told unknown p = before
 
     mark-next : mark next ns block ≡ told (count next ns) (writtenAfter ns block f h last)

@@ -1,6 +1,11 @@
 pub mod ChecksLaws
-pub mod AnswersLaws
 pub mod StateLaws
+pub mod FrameLineLaws
+pub mod AnswersLaws
+pub mod DiscoveryLaws
+pub mod FeaturesLaws
+pub mod PlacesLaws
+pub mod InsertedLaws
 pub mod FramesLaws
 pub mod SlotsLaws
 pub mod SoundLaws
@@ -13,4 +18,5 @@ pub mod HistoryLaws
 pub mod PoolLaws
 pub mod LocksLaws
 pub mod Promised
+pub mod DiscoveryPromised
 pub mod Examples

@@ -13,7 +13,8 @@ use Rattle.rules.specs.declared.BootLocks.{BootLocks}
 use Rattle.rules.specs.Checks.{AllPass}
 use Rattle.rules.specs.State.{State, managed}
 use Rattle.rules.specs.Locks.{field0, field1, asked, asksHeld, notChangeable, changed, partition}
-use Rattle.rules.specs.Frames.{Frame, manage, release, load, replace, clearOne, clearAll, io, setFeatures, getFeatures, bootWrite, reset, unknown}
+use Rattle.rules.specs.Frames.{Frame, manage, release, load, replace, clearOne, clearAll, io}
+use Rattle.rules.specs.Frames.{setFeatures, getFeatures, bootWrite, reset, discovery, unknown}
 use Rattle.rules.specs.Effects.{setCount, storeKey, emptySlot, emptySlots, emptyAllSlots, zeroMarks, markCovered, onlyWhen}
 use Rattle.rules.specs.Order as order
 use Rattle.rules.specs.Order.{frameRule, isWrite, isPowerCycle, powerCycled}
@@ -38,7 +39,7 @@ changed-held locks d p e n = by (eqb p 0) e
 pub held-effect : (s : State) (p : ℕ) (f : Frame) → AllPass (frameRule s f .checks) → Held (partition p (s .registers .locks))
     → Held (partition p (frameRule s f .effect .registers .locks)) ⊎ (f ≡ reset 1)
 unfolding frameRule order.manage order.release order.load order.replace order.clearOne order.clearAll order.command order.setFeatures
-    order.getFeatures order.bootWrite order.reset setCount storeKey emptySlot emptySlots emptyAllSlots zeroMarks markCovered
+    order.getFeatures order.bootWrite order.reset order.discovery setCount storeKey emptySlot emptySlots emptyAllSlots zeroMarks markCovered
 held-effect s p (manage ns tags) q h = inl h
 held-effect s p (release ns) q h = inl h
 held-effect s p (load ns tag x) q h = inl h
@@ -58,4 +59,5 @@ held-effect s p (reset level) q h = by (isPowerCycle level) refl
     by : (b : Bool) → isPowerCycle level ≡ b → Held (partition p (onlyWhen b (powerCycled s) s .registers .locks)) ⊎ (reset level ≡ reset 1)
     by true e = inr (ap reset (eqb-true level 1 e))
     by false e = inl h
+held-effect s p discovery q h = inl h
 held-effect s p unknown q h = inl h

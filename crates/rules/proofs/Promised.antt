@@ -28,7 +28,7 @@ use Rattle.rules.specs.Order.{frameRule, frameOf, lineRule, step, isRead
 use Rattle.rules.specs.Call.{callChecks, roomFor, Called, unanswered, answered}
 use Rattle.rules.specs.Sessions.{joined, linesOf, Session, noSession, allAnswered}
 use Rattle.rules.specs.Start.{fresh, freshWith, emptiedCache, startChecks, start}
-use Rattle.rules.specs.Promises.{NumbersAsNamed, NoneFed, fed, EndsUnfed, GiveBack, LinesOfText}
+use Rattle.rules.specs.Promises.{NumbersAsNamed, NoneFed, EndsUnfed, GiveBack, LinesOfText}
 use Rattle.rules.specs.Promises.{Starts, StartRefusedWhen, StartRefusedKeeps, StartsFresh}
 use Rattle.rules.specs.History.{Event, holds, covers, lastWritten}
 use Rattle.rules.specs.Promises.{Calls, Sessions, FromFresh, Steps, checksOf, sessionChecks, RefusedWhen, DoneWhen, RefusedKeeps, Writes}
@@ -75,6 +75,7 @@ numbers-as-named = record {
   is-07·0D = refl;
   is-07·0E = refl;
   is-07·0F = refl;
+  is-07·16 = refl;
 }
 
 longer-unfed : (b : ℕ) (text : List ℕ) → EndsUnfed text → EndsUnfed (b ∷ text)

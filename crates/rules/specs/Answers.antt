@@ -10,9 +10,10 @@ use Rattle.rules.specs.declared.Refusal.the-variants.{InvalidOpcode, Inv
 use Rattle.rules.specs.declared.Refusal.the-variants.{BlocksOutOfRange, LockNotChangeable, BootWriteProhibited, NotAFrameLine, UnknownKind}
 use Rattle.rules.specs.declared.Refusal.the-variants.{WrongLength, BadKeyUidLength, AlreadyManaged, NotManaged, BadTagCount, PoolTooSmall}
 use Rattle.rules.specs.declared.Refusal.the-variants.{SlotOccupied, SlotEmpty, OtherOldKeyUid, OtherKey, WrongStore, UnsoundState}
-use Rattle.rules.specs.declared.Refusal.the-variants.{OutputTooShort}
+use Rattle.rules.specs.declared.Refusal.the-variants.{OutputTooShort, NotAResponse}
 use Rattle.rules.specs.declared.Answer.{Answer}
-use Rattle.rules.specs.declared.Answer.the-variants.{Done, LockStates, Refused}
+use Rattle.rules.specs.declared.Answer.the-variants.{Done, LockStates, Discovery, Refused}
+use Rattle.rules.specs.Discovery.{response, ownFields}
 
 abbrev pub refusalNumber : Refusal → ℕ
 refusalNumber InvalidOpcode = 0x0001
@@ -38,20 +39,24 @@ refusalNumber OtherKey = 0x070C
 refusalNumber WrongStore = 0x070D
 refusalNumber UnsoundState = 0x070E
 refusalNumber OutputTooShort = 0x070F
+refusalNumber NotAResponse = 0x0716
 
 abbrev pub number : Answer → ℕ
 number Done = 0x0000
 number (LockStates dword) = 0x0000
+number Discovery = 0x0000
 number (Refused r) = refusalNumber r
 
 abbrev pub accepted : Answer → Bool
 accepted Done = true
 accepted (LockStates dword) = true
+accepted Discovery = true
 accepted (Refused r) = false
 
 -- ------------------------------------------------------------------------
--- An answer's line: a status type byte, a status code byte and, for kind 09
--- alone, 4 data bytes, the lowest first; uppercase digits and a line feed
+-- An answer's line: a status type byte, a status code byte and, for kind 09, 4
+-- data bytes, the lowest first, for kind 0C the discovery response; uppercase
+-- digits and a line feed
 
 -- the data that a refusal carries: none today
 abbrev pub refusalData : Refusal → List ℕ
@@ -60,6 +65,7 @@ refusalData r = []
 abbrev pub answerData : Answer → List ℕ
 answerData Done = []
 answerData (LockStates d) = d % 256 ∷ d / 256 % 256 ∷ d / 65536 % 256 ∷ d / 16777216 % 256 ∷ []
+answerData Discovery = response ownFields
 answerData (Refused r) = refusalData r
 
 abbrev pub answerBytes : Answer → List ℕ
@@ -69,6 +75,7 @@ answerBytes a = number a / 256 ∷ number a % 256 ∷ answerData a
 abbrev pub Sayable : Answer → Type 0
 Sayable Done = Unit {0}
 Sayable (LockStates d) = d < 2 ^ 32
+Sayable Discovery = Unit {0}
 Sayable (Refused r) = Unit {0}
 
 abbrev pub AllSayable : List Answer → Type 0
@@ -160,3 +167,6 @@ abbrev pub 07·0E : Refusal
 
 abbrev pub 07·0F : Refusal
 07·0F = OutputTooShort
+
+abbrev pub 07·16 : Refusal
+07·16 = NotAResponse

@@ -1,6 +1,6 @@
 -- "Bench examples": P1 to P10 and the paper's session as one table, lines and
--- answers in the paper's own digits. Each row starts from a fresh drive and
--- each line is a whole call with room for one answer.
+-- answers in the paper's own digits, and D1 for discovery. Each row starts from
+-- a fresh drive and each line is a whole call with just the room that it asks.
 -- Assumes nothing.
 use mathlib.Core.Path.{_≡_}
 use mathlib.Core.Bool.{Bool, true, _&&_}
@@ -18,7 +18,7 @@ use Rattle.rules.specs.Numbers.{answerMost}
 use Rattle.rules.specs.State.{State}
 use Rattle.rules.specs.Locks.{sameLock}
 use Rattle.rules.specs.Start.{fresh}
-use Rattle.rules.specs.Call.{call}
+use Rattle.rules.specs.Call.{roomFor, call}
 use Rattle.rules.specs.Sessions.{session}
 
 -- ------------------------------------------------------------------------
@@ -40,7 +40,7 @@ s ⁀ t = s ++ t
 unfoldable pub right : State → List Entry → Bool
 right s [] = true
 right s ((line answers answer) ∷ row) =
-    let left = call s (codes line) (zeros answerMost) in
+    let left = call s (codes line) (zeros (roomFor (codes line))) in
     same (take (left .bytes) (left .out)) (codes (answer ⁀ "\n")) && right (left .state) row
 right s (partitions a b ∷ row) = sameLock (s .registers .locks .partition0) a && sameLock (s .registers .locks .partition1) b && right s row
 
@@ -63,6 +63,16 @@ abbrev pub command : String → String → String → String → String → Stri
 command opcode ns first more tag =
     "07" ⁀ opcode ⁀ "000000" ⁀ ns ⁀ "0000000000000000000000000000000000000000000000000000000000000000"
     ⁀ first ⁀ more ⁀ "0100" ⁀ tag ⁀ "00000000000000000000"
+
+-- the answer to discovery: 0000; the header, 48 bytes; the TPer feature, 16; the Key Per I/O feature, 48
+abbrev pub discoveryAnswer : String
+discoveryAnswer =
+    "0000"
+    ⁀ "0000006C000000010000000000000000"
+    ⁀ "0000000000000000000000000000000000000000000000000000000000000000"
+    ⁀ "0001100C000000000000000000000000"
+    ⁀ "0305102C0000000000000000000000000D001000000000000000000000000000"
+    ⁀ "00000000000000400020000000000000"
 
 unfoldable pub table : List (List Entry)
 table =
@@ -95,6 +105,9 @@ table =
     -- P10: KeyUID length 16 accepted, 17 gets 07 04
     ∷ ("010101" answers "0000" ∷ "0301000011AAAAAAAAAAAAAAAAAAAAAAAAAAAAAAAAAA" ⁀ K answers "0704"
     ∷ "0301000010AAAAAAAAAAAAAAAAAAAAAAAAAAAAAAAA" ⁀ K answers "0000" ∷ [])
+    -- D1: discovery, the response in its three parts; a byte more gets 07 03; on a drive in use it says the same
+    ∷ ("0C" answers discoveryAnswer ∷ "0C00" answers "0703"
+    ∷ "010101" answers "0000" ∷ "0301000001AA" ⁀ K answers "0000" ∷ "0C" answers discoveryAnswer ∷ [])
     -- the session that the paper gives whole
     ∷ ("010102" answers "0000" ∷ "0301000001AA" ⁀ K answers "0000" ∷ "05010100" answers "070A"
     ∷ "09" answers "000012000000" ∷ "0B01" answers "0000" ∷ "05010000" answers "070A" ∷ [])

@@ -1,4 +1,4 @@
--- Frames: the eleven kinds with their fields, and how a frame is read from its
+-- Frames: the twelve kinds with their fields, and how a frame is read from its
 -- bytes, with 07 02, 07 03 and 07 04 in the paper's order.
 -- Assumes nothing.
 use mathlib.Core.Bool.{Bool, true, not, _||_}
@@ -30,6 +30,7 @@ pub data Frame : Type 0 where
   getFeatures : Frame
   bootWrite : (partition : ℕ) → Frame
   reset : (level : ℕ) → Frame
+  discovery : Frame
   unknown : Frame
 
 -- a frame as its bytes are read: the checks on the way, and the frame if all pass
@@ -100,7 +101,7 @@ readReplace f =
 abbrev pub unknownKind : Reading
 unknownKind = record { checks = 07·02 when true ∷ []; frame = unknown }
 
--- the table of kinds, 00 to 0B
+-- the table of kinds, 00 to 0C
 unfoldable pub kinds : List ℕ → List Reading
 kinds f =
     unknownKind
@@ -115,6 +116,7 @@ kinds f =
     ∷ exactly 1 f getFeatures
     ∷ exactly 2 f (bootWrite (byte 1 f))
     ∷ exactly 2 f (reset (byte 1 f))
+    ∷ exactly 1 f discovery
     ∷ []
 
 unfoldable pub readFrame : List ℕ → Reading

@@ -12,7 +12,8 @@ use Rattle.rules.specs.Answers.{accepted}
 use Rattle.rules.specs.State.{namespace, sameNamespace, sameTag}
 use Rattle.rules.specs.Slots.{Held, nothing, holding}
 use Rattle.rules.specs.declared.Command.{Command}
-use Rattle.rules.specs.Frames.{Frame, manage, release, load, replace, clearOne, clearAll, io, setFeatures, getFeatures, bootWrite, reset, unknown}
+use Rattle.rules.specs.Frames.{Frame, manage, release, load, replace, clearOne, clearAll, io}
+use Rattle.rules.specs.Frames.{setFeatures, getFeatures, bootWrite, reset, discovery, unknown}
 use Rattle.rules.specs.Order.{frameOf, isWrite, isPowerCycle}
 
 pub record Event : Type 0 where
@@ -44,6 +45,7 @@ touches ns tag (setFeatures dword11) = false
 touches ns tag getFeatures = false
 touches ns tag (bootWrite partition) = false
 touches ns tag (reset level) = isPowerCycle level
+touches ns tag discovery = false
 touches ns tag unknown = false
 
 -- what a touched slot then holds: a load and a replace put a key there, the others leave none
@@ -59,6 +61,7 @@ leaves (setFeatures dword11) = nothing
 leaves getFeatures = nothing
 leaves (bootWrite partition) = nothing
 leaves (reset level) = nothing
+leaves discovery = nothing
 leaves unknown = nothing
 
 -- as the last accepted frame that touched the slot says
@@ -90,6 +93,7 @@ writtenAfter ns block (setFeatures dword11) older before = before
 writtenAfter ns block getFeatures older before = before
 writtenAfter ns block (bootWrite partition) older before = before
 writtenAfter ns block (reset level) older before = before
+writtenAfter ns block discovery older before = before
 writtenAfter ns block unknown older before = before
 
 unfoldable pub lastWritten : Namespace → ℕ → List Event → Held
@@ -114,6 +118,7 @@ countAfter ns (setFeatures dword11) before = before
 countAfter ns getFeatures before = before
 countAfter ns (bootWrite partition) before = before
 countAfter ns (reset level) before = before
+countAfter ns discovery before = before
 countAfter ns unknown before = before
 
 unfoldable pub tagCount : Namespace → List Event → ℕ

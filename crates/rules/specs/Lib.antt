@@ -1,8 +1,9 @@
 pub mod Numbers
 pub mod Checks
+pub mod Fields
+pub mod Discovery
 pub mod Answers
 pub mod FrameLine
-pub mod Fields
 pub mod State
 pub mod Slots
 pub mod Marks
@@ -14,6 +15,8 @@ pub mod Order
 pub mod Start
 pub mod Call
 pub mod Sessions
+pub mod Discovering
 pub mod History
 pub mod Promises
+pub mod DiscoveryPromises
 pub mod Examples

@@ -55,3 +55,33 @@ digitsMost = 140
 -- an answer line has at most 13 bytes
 abbrev pub answerMost : ℕ
 answerMost = 13
+
+-- ------------------------------------------------------------------------
+-- A discovery response: the header (a length, a revision, 8 bytes reserved, 32
+-- of the vendor), the TPer feature and the Key Per I/O feature
+
+abbrev pub lengthSize : ℕ
+lengthSize = 4
+
+abbrev pub vendorSpecificSize : ℕ
+vendorSpecificSize = 32
+
+abbrev pub headerSize : ℕ
+headerSize = 16 + vendorSpecificSize
+
+-- a feature's head: code, version, length
+abbrev pub headSize : ℕ
+headSize = 4
+
+abbrev pub tperSize : ℕ
+tperSize = 16
+
+abbrev pub keyPerIoSize : ℕ
+keyPerIoSize = 48
+
+abbrev pub discoverySize : ℕ
+discoverySize = headerSize + tperSize + keyPerIoSize
+
+-- the answer to discovery: its number and the response, two digits a byte, and a line feed
+abbrev pub discoveryMost : ℕ
+discoveryMost = (2 + discoverySize) * 2 + 1

@@ -11,7 +11,7 @@ use Rattle.rules.specs.declared.Namespace.{Namespace}
 use Rattle.rules.specs.declared.Tag.{Tag}
 use Rattle.rules.specs.declared.Lock.the-variants.{WriteUnlocked}
 use Rattle.rules.specs.declared.Refusal.{Refusal}
-use Rattle.rules.specs.declared.Answer.the-variants.{Done, LockStates}
+use Rattle.rules.specs.declared.Answer.the-variants.{Done, LockStates, Discovery}
 use Rattle.rules.specs.Numbers.{blocksEach, poolSlots, tagsMost, markWidth}
 use Rattle.rules.specs.Checks.{Check, _when_, onlyIf, AllPass}
 use Rattle.rules.specs.Answers.{00·01, 00·02, 00·0B, 00·25, 00·28, 00·80, 01·0E, 01·1E, 07·01}
@@ -199,6 +199,12 @@ reset s level = record {
 }
 
 -- ------------------------------------------------------------------------
+-- Discovery: it has no checks, and changes nothing
+
+unfoldable pub discovery : State → Rule
+discovery s = record { checks = []; answer = Discovery; effect = s }
+
+-- ------------------------------------------------------------------------
 -- Any frame; and a line: 07 01, 07 02 and length, then the frame's own checks
 
 unfoldable pub frameRule : State → Frame → Rule
@@ -213,6 +219,7 @@ frameRule s (frames.setFeatures dword11) = setFeatures s dword11
 frameRule s frames.getFeatures = getFeatures s
 frameRule s (frames.bootWrite p) = bootWrite s p
 frameRule s (frames.reset level) = reset s level
+frameRule s frames.discovery = discovery s
 frameRule s frames.unknown = record { checks = 07·02 when true ∷ []; answer = Done; effect = s }
 
 abbrev pub frameOf : List ℕ → Frame

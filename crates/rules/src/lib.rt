@@ -34,6 +34,24 @@ pub const FRAME_MOST: usize = DIGITS_MOST / 2;
 
 pub const ANSWER_MOST: usize = 13;
 
+// A discovery response: its header, the TPer feature and the Key Per I/O feature.
+pub const LENGTH_SIZE: usize = 4;
+
+pub const VENDOR_SPECIFIC_SIZE: usize = 32;
+
+pub const HEADER_SIZE: usize = 16 + VENDOR_SPECIFIC_SIZE;
+
+pub const HEAD_SIZE: usize = 4;
+
+pub const TPER_SIZE: usize = 16;
+
+pub const KEY_PER_IO_SIZE: usize = 48;
+
+pub const DISCOVERY_SIZE: usize = HEADER_SIZE + TPER_SIZE + KEY_PER_IO_SIZE;
+
+// The answer to discovery: its number and the response, two digits a byte, and a line feed.
+pub const DISCOVERY_MOST: usize = (2 + DISCOVERY_SIZE) * 2 + 1;
+
 // A namespace number, 1 to 4 where it names one. A command's has 32 bits.
 pub struct Namespace(pub u32);
 
@@ -93,12 +111,14 @@ pub enum Refusal {
     WrongStore,
     UnsoundState,
     OutputTooShort,
+    NotAResponse,
 }
 
-// An answer: 0000, 0000 with the 4 data bytes of Get Features, or a refusal.
+// An answer: 0000, 0000 with the 4 data bytes of Get Features or with the discovery response, or a refusal.
 pub enum Answer {
     Done,
     LockStates(u32),
+    Discovery,
     Refused(Refusal),
 }
 
@@ -109,4 +129,78 @@ pub enum LineRead {
     TooLong,
     BadDigit(usize),
     Odd,
+}
+
+// Level 0 Discovery, as section 3.1.1 of 001 has it: each field a number of so many bits, in its order and with its names (docs/DISCOVERY.md).
+pub struct DiscoveryHeader {
+    pub data_structure_revision: u32,
+    pub vendor_specific: [u8; VENDOR_SPECIFIC_SIZE],
+}
+
+pub struct Tper {
+    pub version: u8,
+    pub com_id_mgmt_supported: u8,
+    pub streaming_supported: u8,
+    pub buffer_mgmt_supported: u8,
+    pub ack_nack_supported: u8,
+    pub async_supported: u8,
+    pub sync_supported: u8,
+}
+
+pub struct KeyPerIo {
+    pub feature_descriptor_version: u8,
+    pub ssc_minor_version: u8,
+    pub protocol_01_base_com_id: u16,
+    pub protocol_01_number_of_com_ids: u16,
+    pub protocol_03_base_com_id: u16,
+    pub protocol_03_number_of_com_ids: u16,
+    pub initial_pin_indicator: u8,
+    pub behavior_of_pin_upon_revert: u8,
+    pub number_of_admin_authorities: u16,
+    pub replay_protection_enabled: u8,
+    pub replay_protection_supported: u8,
+    pub incorrect_key_detection_supported: u8,
+    pub shared_tweak_key_required: u8,
+    pub scope: u8,
+    pub enabled: u8,
+    pub maximum_key_uid_length: u16,
+    pub kmip_key_injection_supported: u8,
+    pub rsa_oaep_supported: u8,
+    pub aes_gcm_supported: u8,
+    pub aes_kw_supported: u8,
+    pub aes_256_wrapping_key_supported: u8,
+    pub rsa4k_wrapping_key_supported: u8,
+    pub rsa3k_wrapping_key_supported: u8,
+    pub rsa2k_wrapping_key_supported: u8,
+    pub pki_kek_transport_supported: u8,
+    pub plaintext_kek_provisioning_supported: u8,
+    pub number_of_key_encryption_keys: u32,
+    pub total_number_of_key_tags: u32,
+    pub maximum_key_tags_per_namespace: u16,
+    pub nonce_length: u8,
+}
+
+pub struct DiscoveryFields {
+    pub header: DiscoveryHeader,
+    pub tper: Tper,
+    pub key_per_io: KeyPerIo,
+}
+
+// A feature as a host finds it.
+pub enum TperFound {
+    Absent,
+    Found(Tper),
+}
+
+pub enum KeyPerIoFound {
+    Absent,
+    Found(KeyPerIo),
+}
+
+// What a host finds in any bytes: 0000 with the fields, or 07 16 with none.
+pub struct Discovered {
+    pub answer: Answer,
+    pub header: DiscoveryHeader,
+    pub tper: TperFound,
+    pub key_per_io: KeyPerIoFound,
 }

@@ -8,7 +8,8 @@ use rules::CACHE_SIZE;
 use rules::Refusal;
 use rules::STORE_SIZE;
 
-// The longest input, and room for the answers to as many lines as it could have.
+// The longest input, and room for a short answer to as many lines as it could have. Discovery takes more; a session that needs more than
+// this is refused.
 const INPUT: usize = 4096;
 
 const OUTPUT: usize = INPUT * ANSWER_MOST;

@@ -8,9 +8,10 @@ use Prim.Native.Nat.{ℕ, zero, suc, _+_, _-_, _<_, _≤_}
 use native.Mathlib.Omega.{arith}
 use lib.ListN.{length, take, drop, set, length-append, length-drop, length-set}
 use lib.Seq.{length-take-le, take-length, drop-length, drop-at, append-snoc}
-use lib.Dec.{eqb}
 use borrow.Author.Tests.{eq-eqb, ne-eqb, eqb-true, not-false}
 use Rattle.cells.proofs.CellsLaws.{grow, lent-rest, back-rest}
+use Rattle.cells.proofs.CopyingLaws.{copiedTo}
+use Rattle.cells.proofs.PartsLaws.{copied-over}
 use Rattle.cells.proofs.PredicatesLaws.{or-left, or-right}
 use Rattle.rules.specs.declared.Lock.the-variants.{WriteLocked, WriteLockedUntilPowerCycle}
 use Rattle.rules.specs.declared.Registers.{Registers}
@@ -76,13 +77,6 @@ is-image image e =
 -- ------------------------------------------------------------------------
 -- Copies
 
--- what `copy` leaves
-abbrev copiedTo : List ℕ → List ℕ → List ℕ
-copiedTo d src = cond (eqb (length d) (length src)) src d
-
-pub copied-whole : (d src : List ℕ) → length d ≡ length src → copiedTo d src ≡ src
-copied-whole d src e = rw (eq-eqb _ _ e)
-
 -- the front that the counts are copied from and to
 pub length-front : (image : List ℕ) → length image ≡ imageSize → length (take namespaces image) ≡ namespaces
 length-front image size = length-take-le namespaces image (omega arith)
@@ -94,7 +88,7 @@ length-front image size = length-take-le namespaces image (omega arith)
 module _ (image : List ℕ) (registers : Registers) (size : length image ≡ imageSize) (four : length (registers .counts) ≡ namespaces) where
   module _ {counts : List ℕ} (copied : counts ≡ copiedTo (take namespaces image) (registers .counts)) where
     counts-are : counts ≡ registers .counts
-    counts-are = copied ∙ copied-whole (take namespaces image) (registers .counts) (length-front image size ∙ sym four)
+    counts-are = copied ∙ copied-over (take namespaces image) (registers .counts) (length-front image size ∙ sym four)
 
     counts-four : length counts ≡ namespaces
     counts-four = ap length counts-are ∙ four

@@ -16,7 +16,7 @@ use Rattle.rules.specs.declared.Lock.{Lock}
 use Rattle.rules.specs.declared.Lock.the-variants.{WriteUnlocked, WriteLocked, WriteLockedUntilPowerCycle}
 use Rattle.rules.specs.declared.Refusal.{Refusal}
 use Rattle.rules.specs.declared.Answer.{Answer}
-use Rattle.rules.specs.declared.Answer.the-variants.{Done, LockStates, Refused}
+use Rattle.rules.specs.declared.Answer.the-variants.{Done, LockStates, Discovery, Refused}
 use Rattle.rules.specs.Numbers.{namespaces, cacheSize}
 use Rattle.rules.specs.Answers.{number, refusalNumber}
 use Rattle.rules.specs.State.{State, wrongStore}
@@ -110,6 +110,7 @@ stays image marks s e = (ap (saved (noImage image) image) e ∙ by (noImage imag
 refusal : (a : Answer) (r : Refusal) → number a ≡ refusalNumber r → (q : Refusal) × (a ≡ Refused q)
 refusal Done r e = absurd (some-number r e)
 refusal (LockStates dword) r e = absurd (some-number r e)
+refusal Discovery r e = absurd (some-number r e)
 refusal (Refused q) r e = (q, refl)
 
 pub line-refused-keeps-image : LineRefusedKeepsImage

@@ -1,8 +1,13 @@
 // The drive for callers in C: the state as one byte image that the caller holds. include/tuffaleen.h declares this.
 ghost use mathlib.Core.Path.{_≡_};
 ghost use Rattle.tuffaleen_c.specs.Image.{cStart, cCall, cSession};
+ghost use Rattle.tuffaleen_c.specs.Host.{cDiscovery};
 
+mod host;
 mod image;
+
+use rules::Answer;
+use rules::Refusal;
 
 // A fresh drive, in an image of the right length.
 #[no_mangle]
@@ -71,4 +76,24 @@ pub extern "C" fn tuffaleen_session(
     *lines = reply.lines;
     *written = reply.bytes;
     digits::number(result)
+}
+
+// For a host: what stands in a discovery response.
+#[no_mangle]
+pub extern "C" fn tuffaleen_discovery(bytes: &[u8], fields: &mut [u32]) -> u16
+    ensures { λ r. ⌜ record { number = r; fields = now (fields .exit) } ≡ cDiscovery (now (bytes .entry)) (now (fields .entry)) ⌝ }
+{
+    if fields.len() < host::FIELDS_SIZE {
+        return digits::number(Answer::Refused(Refusal::OutputTooShort));
+    }
+    let found = discovery::read(bytes);
+    let answer = found.answer;
+    let header = found.header;
+    let tper = found.tper;
+    let key_per_io = found.key_per_io;
+    if let Answer::Refused(refusal) = answer {
+        return digits::number(Answer::Refused(refusal));
+    }
+    host::put(fields, header, tper, key_per_io);
+    digits::number(answer)
 }

@@ -1,10 +1,10 @@
 -- `digits::write_answer` meets its contract: each arm hands the answer's bytes to `write_line`.
 -- Assumes nothing.
+use borrow.Author.Needs.{needs}
 use mathlib.Core.Path.{sym, ap, _∙_}
 use mathlib.Core.List.{[], _∷_}
 use Prim.Native.Nat.{_/_, _%_}
 use Rattle.rules.specs.Answers.{answerBytes}
-use borrow.Author.Needs.{needs}
 use Rattle.digits.proofs.write_answer.Statement.{statement}
 use Rattle.digits.proofs.write_answer.Tie as tie
 
@@ -22,6 +22,12 @@ returns-2 c =
 
 returns-3 : tie.Need-returns-3
 returns-3 c =
+    let w : tie.After-write-discovery = search in
+    let t : tie.After-enum-told2 = search in
+    rw (t .enum-told2 .given .1) (w .write-discovery .ensures)
+
+returns-4 : tie.Need-returns-4
+returns-4 c =
     let w : tie.After-write-line3 = search in
     let n : tie.After-refusal-number = search in
     let at-answer2 : tie.After-answer2 = search in
@@ -32,8 +38,7 @@ pub write-answer-spec : {M : Type 1} → statement M
 write-answer-spec =
     tie.close
     (tie.spec
-    (λ c. search needs) (λ c. search needs) (λ c κs. search needs) (λ c. search needs) (λ c. search needs) (λ c. search needs)
-    (λ c. search needs) (λ c. search needs) (λ c. search needs) (λ c κs. search needs) (λ c. search needs) (λ c κs. search needs)
-    (λ c. search needs) (λ c. search needs) (λ c. search needs) (λ c κs. search needs) (λ c. search needs) returns
-    (λ c. search needs) returns-2
-    (λ c. search needs) returns-3)
+    (λ c. search needs) (λ c. search needs) (λ c κs. search needs) (λ c. search needs) (λ c. search needs) (λ c. search needs) (λ c. search needs)
+    (λ c. search needs) (λ c. search needs) (λ c κs. search needs) (λ c. search needs) (λ c κs. search needs) (λ c. search needs)
+    (λ c κs. search needs) (λ c. search needs) (λ c. search needs) (λ c. search needs) (λ c κs. search needs) (λ c. search needs) returns
+    (λ c. search needs) returns-2 (λ c. search needs) returns-3 (λ c. search needs) returns-4)

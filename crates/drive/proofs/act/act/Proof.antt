@@ -107,6 +107,13 @@ returns-11 c =
 returns-12 : tie.Need-returns-12
 unfolding frameRule
 returns-12 c =
+    let r : tie.After-enum-told2 = search in
+    let a : tie.After-discovery = search in
+    rw (r .enum-told2 .given .1) (a .discovery .ensures _ _)
+
+returns-13 : tie.Need-returns-13
+unfolding frameRule
+returns-13 c =
     let r : tie.After-read11 = search in
     rw (r .read11 .given .1, c .refused .ensures)
 
@@ -119,11 +126,11 @@ act-spec =
     (λ c. search needs) clear-one-requires
     (λ c. search needs) (λ c κs. search needs) (λ c. search needs) (λ c κs. search needs) (λ c. search needs) (λ c κs. search needs)
     (λ c. search needs) (λ c κs. search needs) (λ c. search needs) (λ c κs. search needs) (λ c. search needs) (λ c κs. search needs)
-    (λ c. search needs) (λ c κs. search needs) returns
+    (λ c. search needs) (λ c κs. search needs) (λ c. search needs) (λ c κs. search needs) returns
     (λ c. search needs) (λ c. search needs) returns-2
     (λ c. search needs) returns-3
     (λ c. search needs) returns-4
     (λ c. search needs) returns-5
     (λ c. search needs) returns-6
     (λ c. search needs) (λ c. search needs) returns-7 returns-8 returns-9 returns-10
-    (λ c. search needs) returns-11 returns-12)
+    (λ c. search needs) returns-11 returns-12 returns-13)

@@ -75,12 +75,18 @@ returns-11 c =
     rw (k .match .keys11) (c .reset .ensures)
 
 returns-12 : tie.Need-returns-12
-unfolding readFrame kinds numbered
-returns-12 c = rw (c .match .keys12)
+unfolding readFrame kinds
+returns-12 c =
+    let k : tie.At-match-keys12 = search in
+    rw (k .match .keys12) (c .discovery .ensures)
 
 returns-13 : tie.Need-returns-13
+unfolding readFrame kinds numbered
+returns-13 c = rw (c .match .keys13)
+
+returns-14 : tie.Need-returns-14
 unfolding readFrame numbered
-returns-13 c =
+returns-14 c =
     let s : tie.Start = search in
     rw (no-kind (s .args .f .now) (byte 0 (s .args .f .now)) (c .match .rest .0) (c .match .rest .1))
 
@@ -90,4 +96,5 @@ by-kind-spec =
     (tie.spec
     (λ c. search needs) (λ c κs. search needs) (λ c κs. search needs) (λ c κs. search needs) (λ c κs. search needs) (λ c κs. search needs)
     (λ c κs. search needs) (λ c κs. search needs) (λ c κs. search needs) (λ c κs. search needs) (λ c κs. search needs) (λ c κs. search needs)
-    returns returns-2 returns-3 returns-4 returns-5 returns-6 returns-7 returns-8 returns-9 returns-10 returns-11 returns-12 returns-13)
+    (λ c κs. search needs) returns returns-2 returns-3 returns-4 returns-5 returns-6 returns-7 returns-8 returns-9 returns-10 returns-11 returns-12 returns-13
+    returns-14)

@@ -7,10 +7,11 @@ use mathlib.Core.Path.{_≡_, sym, _∙_}
 use mathlib.Core.Bool.{false}
 use lib.ListN.{length, take, replicate}
 use Rattle.cells.specs.Cells.{zeros}
+use Rattle.cells.proofs.PartsLaws.{copied-over}
 use Rattle.rules.specs.Numbers.{namespaces}
 use Rattle.rules.specs.Start.{freshRegisters}
 use Rattle.tuffaleen_c.specs.Image.{imageSize, registersIn}
-use Rattle.tuffaleen_c.proofs.ImageLaws.{is-image, copied-whole, length-front}
+use Rattle.tuffaleen_c.proofs.ImageLaws.{is-image, length-front}
 use Rattle.tuffaleen_c.proofs.image.registers_in.Statement.{statement}
 use Rattle.tuffaleen_c.proofs.image.registers_in.Tie as tie
 
@@ -48,7 +49,7 @@ returns-2 c =
     let s : tie.Start = search in
     let image = s .args .image .now in
     let front = sym (length-front image (size s (e .if1 .left))) in
-    let counts = p .copy .ensures ∙ copied-whole (replicate namespaces 0) (take namespaces image) front in
+    let counts = p .copy .ensures ∙ copied-over (replicate namespaces 0) (take namespaces image) front in
     rw (e .if1 .left, counts, x .lock-of .ensures, c .lock-of2 .ensures)
 
 pub registers-in-spec : {M : Type 1} → statement M

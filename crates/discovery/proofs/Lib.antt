@@ -1,0 +1,4 @@
+pub mod ReadingLaws
+pub mod WritingLaws
+pub mod WalkingLaws
+pub mod VerdictLaws

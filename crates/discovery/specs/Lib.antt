@@ -1,0 +1,2 @@
+pub mod Thirds
+pub mod Walking
