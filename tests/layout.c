@@ -1,10 +1,12 @@
-/* The header against the library: every size, offset, lock state and answer of include/tuffaleen.h, by what the
- * library does. The buffers are larger than the header says, so that a wrong number makes a failure and no crash. */
+/* The header against the library: every size, offset, lock state, answer and discovery field of include/tuffaleen.h,
+ * by what the library does. The buffers are larger than the header says, so that a wrong number makes a failure and no
+ * crash. */
 #include <stdio.h>
 #include <string.h>
 #include <tuffaleen.h>
 
 #define ROOM 32768
+#define NUMBERS 256
 #define UNTOUCHED 0xEE
 
 #define KEY_1 "1111111111111111111111111111111111111111111111111111111111111111"
@@ -16,7 +18,8 @@
     "07" opcode "00000001000000" "0000000000000000000000000000000000000000000000000000000000000000" \
     block "00000000000000" more "00" "0100" tag "00" "00000000000000000000"
 
-static uint8_t image[ROOM], marks[ROOM], awaited_image[ROOM], awaited_marks[ROOM], out[ROOM];
+static uint8_t image[ROOM], marks[ROOM], awaited_image[ROOM], awaited_marks[ROOM], out[ROOM], response[ROOM];
+static uint32_t fields[NUMBERS], awaited_fields[NUMBERS];
 static size_t written;
 static int failures;
 
@@ -29,10 +32,15 @@ static int failures;
         } \
     } while (0)
 
-static uint16_t ask_text(const char *line, size_t line_len)
+static uint16_t ask_in(size_t out_len, const char *line, size_t line_len)
 {
     return tuffaleen_line(image, TUFFALEEN_IMAGE_BYTES, marks, TUFFALEEN_MARKS_BYTES, (const uint8_t *)line, line_len,
-                          out, TUFFALEEN_ANSWER_BYTES, &written);
+                          out, out_len, &written);
+}
+
+static uint16_t ask_text(const char *line, size_t line_len)
+{
+    return ask_in(TUFFALEEN_ANSWER_BYTES, line, line_len);
 }
 
 static uint16_t ask(const char *line)
@@ -141,6 +149,25 @@ static void check_output(void)
                                &lines, &written);
     CHECK(answer == TUFFALEEN_OUTPUT_TOO_SHORT && lines == 0 && written == 0,
           "a session with an output too short: %04X", answer);
+}
+
+static void check_discovery_output(void)
+{
+    size_t lines, both = TUFFALEEN_DISCOVERY_BYTES + TUFFALEEN_ANSWER_BYTES;
+    const uint8_t *text = (const uint8_t *)"0C\n09";
+    start();
+    uint16_t answer = ask_in(TUFFALEEN_DISCOVERY_BYTES, "0C", 2);
+    CHECK(answer == TUFFALEEN_DONE && written == TUFFALEEN_DISCOVERY_BYTES, "discovery: %04X, %d bytes", answer,
+          (int)written);
+    answer = ask_in(TUFFALEEN_DISCOVERY_BYTES - 1, "0C", 2);
+    CHECK(answer == TUFFALEEN_OUTPUT_TOO_SHORT && written == 0, "discovery, an output too short: %04X", answer);
+    answer = tuffaleen_session(image, TUFFALEEN_IMAGE_BYTES, marks, TUFFALEEN_MARKS_BYTES, text, 5, out, both, &lines,
+                               &written);
+    CHECK(answer == TUFFALEEN_DONE && lines == 2 && written == both, "a session with discovery: %04X", answer);
+    answer = tuffaleen_session(image, TUFFALEEN_IMAGE_BYTES, marks, TUFFALEEN_MARKS_BYTES, text, 5, out, both - 1,
+                               &lines, &written);
+    CHECK(answer == TUFFALEEN_OUTPUT_TOO_SHORT && lines == 0 && written == 0,
+          "a session with discovery, an output too short: %04X", answer);
 }
 
 static void check_line_length(void)
@@ -327,7 +354,7 @@ static const struct { const char *name; uint16_t number; const char *digits, *li
     {OF(TUFFALEEN_LOCK_NOT_CHANGEABLE), "010E", "0801000000"},
     {OF(TUFFALEEN_BOOT_WRITE_LOCKED), "011E", "0A00"},
     {OF(TUFFALEEN_NOT_A_FRAME_LINE), "0701", "0b00"},
-    {OF(TUFFALEEN_UNKNOWN_KIND), "0702", "0C"},
+    {OF(TUFFALEEN_UNKNOWN_KIND), "0702", "00"},
     {OF(TUFFALEEN_WRONG_FRAME_LENGTH), "0703", "0900"},
     {OF(TUFFALEEN_KEY_UID_LENGTH), "0704", "0301020000"},
     {OF(TUFFALEEN_ALREADY_MANAGED), "0705", "010101"},
@@ -381,6 +408,252 @@ static int check_call_answers(void)
     return seen;
 }
 
+/* Where docs/DISCOVERY.md has each field: its first byte, its lowest bit, how many bits. The vendor specific bytes are
+ * not here, for they have one name. */
+#define HEADER 48
+#define TPER(byte) (HEADER + (byte))
+#define KEY_PER_IO(byte) (TPER(16) + (byte))
+
+static const struct { const char *name; int place, byte, bit, bits; } laid_fields[] = {
+    {OF(TUFFALEEN_DATA_STRUCTURE_REVISION), 4, 0, 32},
+    {OF(TUFFALEEN_TPER_VERSION), TPER(2), 4, 4},
+    {OF(TUFFALEEN_COM_ID_MGMT_SUPPORTED), TPER(4), 6, 1},
+    {OF(TUFFALEEN_STREAMING_SUPPORTED), TPER(4), 4, 1},
+    {OF(TUFFALEEN_BUFFER_MGMT_SUPPORTED), TPER(4), 3, 1},
+    {OF(TUFFALEEN_ACK_NACK_SUPPORTED), TPER(4), 2, 1},
+    {OF(TUFFALEEN_ASYNC_SUPPORTED), TPER(4), 1, 1},
+    {OF(TUFFALEEN_SYNC_SUPPORTED), TPER(4), 0, 1},
+    {OF(TUFFALEEN_FEATURE_DESCRIPTOR_VERSION), KEY_PER_IO(2), 4, 4},
+    {OF(TUFFALEEN_SSC_MINOR_VERSION), KEY_PER_IO(2), 0, 4},
+    {OF(TUFFALEEN_PROTOCOL_01_BASE_COM_ID), KEY_PER_IO(4), 0, 16},
+    {OF(TUFFALEEN_PROTOCOL_01_NUMBER_OF_COM_IDS), KEY_PER_IO(6), 0, 16},
+    {OF(TUFFALEEN_PROTOCOL_03_BASE_COM_ID), KEY_PER_IO(8), 0, 16},
+    {OF(TUFFALEEN_PROTOCOL_03_NUMBER_OF_COM_IDS), KEY_PER_IO(10), 0, 16},
+    {OF(TUFFALEEN_INITIAL_PIN_INDICATOR), KEY_PER_IO(12), 0, 8},
+    {OF(TUFFALEEN_BEHAVIOR_OF_PIN_UPON_REVERT), KEY_PER_IO(13), 0, 8},
+    {OF(TUFFALEEN_NUMBER_OF_ADMIN_AUTHORITIES), KEY_PER_IO(14), 0, 16},
+    {OF(TUFFALEEN_REPLAY_PROTECTION_ENABLED), KEY_PER_IO(16), 5, 1},
+    {OF(TUFFALEEN_REPLAY_PROTECTION_SUPPORTED), KEY_PER_IO(16), 4, 1},
+    {OF(TUFFALEEN_INCORRECT_KEY_DETECTION_SUPPORTED), KEY_PER_IO(16), 3, 1},
+    {OF(TUFFALEEN_SHARED_TWEAK_KEY_REQUIRED), KEY_PER_IO(16), 2, 1},
+    {OF(TUFFALEEN_SCOPE), KEY_PER_IO(16), 1, 1},
+    {OF(TUFFALEEN_ENABLED), KEY_PER_IO(16), 0, 1},
+    {OF(TUFFALEEN_MAXIMUM_KEY_UID_LENGTH), KEY_PER_IO(17), 0, 16},
+    {OF(TUFFALEEN_KMIP_KEY_INJECTION_SUPPORTED), KEY_PER_IO(19), 0, 1},
+    {OF(TUFFALEEN_RSA_OAEP_SUPPORTED), KEY_PER_IO(21), 2, 1},
+    {OF(TUFFALEEN_AES_GCM_SUPPORTED), KEY_PER_IO(21), 1, 1},
+    {OF(TUFFALEEN_AES_KW_SUPPORTED), KEY_PER_IO(21), 0, 1},
+    {OF(TUFFALEEN_AES_256_WRAPPING_KEY_SUPPORTED), KEY_PER_IO(23), 0, 1},
+    {OF(TUFFALEEN_RSA4K_WRAPPING_KEY_SUPPORTED), KEY_PER_IO(25), 2, 1},
+    {OF(TUFFALEEN_RSA3K_WRAPPING_KEY_SUPPORTED), KEY_PER_IO(25), 1, 1},
+    {OF(TUFFALEEN_RSA2K_WRAPPING_KEY_SUPPORTED), KEY_PER_IO(25), 0, 1},
+    {OF(TUFFALEEN_PKI_KEK_TRANSPORT_SUPPORTED), KEY_PER_IO(27), 1, 1},
+    {OF(TUFFALEEN_PLAINTEXT_KEK_PROVISIONING_SUPPORTED), KEY_PER_IO(27), 0, 1},
+    {OF(TUFFALEEN_NUMBER_OF_KEY_ENCRYPTION_KEYS), KEY_PER_IO(32), 0, 32},
+    {OF(TUFFALEEN_TOTAL_NUMBER_OF_KEY_TAGS), KEY_PER_IO(36), 0, 32},
+    {OF(TUFFALEEN_MAXIMUM_KEY_TAGS_PER_NAMESPACE), KEY_PER_IO(40), 0, 16},
+    {OF(TUFFALEEN_NONCE_LENGTH), KEY_PER_IO(42), 0, 8},
+};
+
+#define LAID_FIELDS (sizeof laid_fields / sizeof *laid_fields)
+
+/* What the drive's own response has other than 0. */
+static const struct { int place; uint32_t number; } own_fields[] = {
+    {TUFFALEEN_DATA_STRUCTURE_REVISION, 1},
+    {TUFFALEEN_TPER_VERSION, 1},
+    {TUFFALEEN_FEATURE_DESCRIPTOR_VERSION, 1},
+    {TUFFALEEN_INCORRECT_KEY_DETECTION_SUPPORTED, 1},
+    {TUFFALEEN_SHARED_TWEAK_KEY_REQUIRED, 1},
+    {TUFFALEEN_ENABLED, 1},
+    {TUFFALEEN_MAXIMUM_KEY_UID_LENGTH, 16},
+    {TUFFALEEN_TOTAL_NUMBER_OF_KEY_TAGS, 64},
+    {TUFFALEEN_MAXIMUM_KEY_TAGS_PER_NAMESPACE, 32},
+};
+
+/* The bits of a response that are some field's, and the places that were awaited with a number other than 0. */
+static uint8_t bits_told[KEY_PER_IO(48)], place_seen[NUMBERS];
+
+static void lay_end(size_t end)
+{
+    memset(response, 0, 3);
+    response[3] = end - 4;
+}
+
+static size_t lay_feature(size_t at, int code, int len, uint8_t fill)
+{
+    memset(response + at, fill, 4 + len);
+    response[at] = code >> 8;
+    response[at + 1] = code & 0xFF;
+    response[at + 3] = len;
+    return at + 4 + len;
+}
+
+/* Features of these lengths, none where it is below 0; all that is free is filled. Tells the response's length. */
+static size_t lay_response(int tper_len, int key_per_io_len, uint8_t fill)
+{
+    size_t end = HEADER;
+    memset(response, fill, HEADER);
+    if (tper_len >= 0)
+        end = lay_feature(end, 0x0001, tper_len, fill);
+    if (key_per_io_len >= 0)
+        end = lay_feature(end, 0x0305, key_per_io_len, fill);
+    lay_end(end);
+    return end;
+}
+
+static uint16_t discover(size_t len, size_t room)
+{
+    memset(fields, UNTOUCHED, sizeof fields);
+    return tuffaleen_discovery(response, len, fields, room);
+}
+
+static void await_number(int place, uint32_t number)
+{
+    CHECK(place >= 0 && place < NUMBERS, "a place of %d", place);
+    if (place >= 0 && place < NUMBERS) {
+        awaited_fields[place] = number;
+        place_seen[place] |= number != 0;
+    }
+}
+
+/* Features found or not, in which nothing is set; what is behind the last place stays. */
+static void await_found(int tper, int key_per_io)
+{
+    memset(awaited_fields, UNTOUCHED, sizeof awaited_fields);
+    for (int place = 0; place < TUFFALEEN_DISCOVERY_FIELDS; place++)
+        await_number(place, 0);
+    await_number(TUFFALEEN_TPER_FOUND, tper);
+    await_number(TUFFALEEN_KEY_PER_IO_FOUND, key_per_io);
+}
+
+static int found_as_awaited(size_t len)
+{
+    return discover(len, NUMBERS) == TUFFALEEN_DONE && memcmp(fields, awaited_fields, sizeof fields) == 0;
+}
+
+static int is_untouched(void)
+{
+    int same = 1;
+    for (size_t i = 0; i < sizeof fields; i++)
+        same &= ((const uint8_t *)fields)[i] == UNTOUCHED;
+    return same;
+}
+
+static void check_discovery_room(void)
+{
+    size_t len = lay_response(0x0C, 0x2C, 0);
+    uint16_t answer = discover(len, TUFFALEEN_DISCOVERY_FIELDS);
+    CHECK(answer == TUFFALEEN_DONE, "discovery with room for %d numbers: %04X", TUFFALEEN_DISCOVERY_FIELDS, answer);
+    for (size_t cut = 0; cut < 2; cut++) {
+        answer = discover(len - cut, TUFFALEEN_DISCOVERY_FIELDS - 1);
+        CHECK(answer == TUFFALEEN_OUTPUT_TOO_SHORT && is_untouched(), "discovery with room for %d numbers: %04X",
+              TUFFALEEN_DISCOVERY_FIELDS - 1, answer);
+    }
+}
+
+static void check_own_response(void)
+{
+    size_t len = 0;
+    start();
+    ask_in(TUFFALEEN_DISCOVERY_BYTES, "0C", 2);
+    for (size_t at = 4; at + 1 < written; at += 2) {
+        int high = out[at] <= '9' ? out[at] - '0' : out[at] - 'A' + 10;
+        int low = out[at + 1] <= '9' ? out[at + 1] - '0' : out[at + 1] - 'A' + 10;
+        response[len++] = high << 4 | low;
+    }
+    await_found(1, 1);
+    for (size_t i = 0; i < sizeof own_fields / sizeof *own_fields; i++)
+        await_number(own_fields[i].place, own_fields[i].number);
+    CHECK(len == 112 && found_as_awaited(len), "the fields of the drive's own response");
+}
+
+/* Each bit of a field by itself: its place has it, and each other what it has without. */
+static void check_field(const char *name, int place, int byte, int bit, int bits)
+{
+    for (int i = 0; i < bits; i++) {
+        size_t at = byte + (bits - 1) / 8 - (bit + i) / 8, len = lay_response(0x0C, 0x2C, 0);
+        response[at] |= 1 << (bit + i) % 8;
+        bits_told[at] |= 1 << (bit + i) % 8;
+        await_found(1, 1);
+        await_number(place, (uint32_t)1 << i);
+        CHECK(found_as_awaited(len), "%s at place %d, bit %d", name, place, i);
+    }
+}
+
+/* What is no field, no length and no feature's code. */
+static void check_reserved_bits(void)
+{
+    static const uint8_t others[] = {
+        0, 1, 2, 3, TPER(0), TPER(1), TPER(3), KEY_PER_IO(0), KEY_PER_IO(1), KEY_PER_IO(3),
+    };
+    for (size_t i = 0; i < sizeof others; i++)
+        bits_told[others[i]] = 0xFF;
+    for (int bit = 0; bit < 8 * KEY_PER_IO(48); bit++) {
+        size_t len = lay_response(0x0C, 0x2C, 0);
+        if (bits_told[bit / 8] >> bit % 8 & 1)
+            continue;
+        response[bit / 8] |= 1 << bit % 8;
+        await_found(1, 1);
+        CHECK(found_as_awaited(len), "bit %d of byte %d is told, and is reserved", bit % 8, bit / 8);
+    }
+}
+
+/* Tells how many names of the header were seen. */
+static int check_fields(void)
+{
+    int places = 0;
+    for (size_t i = 0; i < LAID_FIELDS; i++)
+        check_field(laid_fields[i].name, laid_fields[i].place, laid_fields[i].byte, laid_fields[i].bit,
+                    laid_fields[i].bits);
+    for (int i = 0; i < 32; i++)
+        check_field("TUFFALEEN_VENDOR_SPECIFIC", TUFFALEEN_VENDOR_SPECIFIC + i, 16 + i, 0, 8);
+    check_reserved_bits();
+    for (int place = 0; place < NUMBERS; place++)
+        places += place_seen[place];
+    CHECK(places == TUFFALEEN_DISCOVERY_FIELDS, "%d places, and the header has %d", places,
+          TUFFALEEN_DISCOVERY_FIELDS);
+    /* The table's, the vendor specific bytes', and the two that tell a feature found. */
+    return LAID_FIELDS + 3;
+}
+
+/* All bits set, in features that are there, too short, or not there. */
+static void check_features(int tper_len, int key_per_io_len)
+{
+    size_t len = lay_response(tper_len, key_per_io_len, 0xFF);
+    int tper = tper_len >= 0x0C, key_per_io = key_per_io_len >= 0x2C;
+    await_found(tper, key_per_io);
+    for (size_t i = 0; i < LAID_FIELDS; i++) {
+        int byte = laid_fields[i].byte;
+        if (byte < HEADER || (byte < KEY_PER_IO(0) ? tper : key_per_io))
+            await_number(laid_fields[i].place, 0xFFFFFFFF >> (32 - laid_fields[i].bits));
+    }
+    for (int i = 0; i < 32; i++)
+        await_number(TUFFALEEN_VENDOR_SPECIFIC + i, 0xFF);
+    CHECK(found_as_awaited(len), "features of lengths %d and %d", tper_len, key_per_io_len);
+}
+
+/* What is no response: so many bytes of a whole one, in which the header tells this end. */
+static const struct { const char *why; size_t len, end; } no_responses[] = {
+    {"shorter than the header", HEADER - 1, HEADER - 1},
+    {"the length ends inside the header", KEY_PER_IO(48), HEADER - 1},
+    {"the length ends past the data", KEY_PER_IO(48), KEY_PER_IO(49)},
+    {"a head runs past the end", KEY_PER_IO(48), TPER(3)},
+    {"a feature's length runs past the end", KEY_PER_IO(48), KEY_PER_IO(47)},
+};
+
+static int check_no_responses(void)
+{
+    for (size_t i = 0; i < sizeof no_responses / sizeof *no_responses; i++) {
+        lay_response(0x0C, 0x2C, 0);
+        lay_end(no_responses[i].end);
+        uint16_t answer = discover(no_responses[i].len, TUFFALEEN_DISCOVERY_FIELDS);
+        CHECK(answer == TUFFALEEN_NOT_A_RESPONSE, "TUFFALEEN_NOT_A_RESPONSE is %04X, the library answers %04X: %s",
+              TUFFALEEN_NOT_A_RESPONSE, answer, no_responses[i].why);
+        CHECK(answer == 0x0716 && is_untouched(), "no response is answered %04X: %s", answer, no_responses[i].why);
+    }
+    return 1;
+}
+
 /* Whoever changes the layout comes by here, and counts the version up. */
 static void check_version(void)
 {
@@ -392,7 +665,7 @@ static void check_version(void)
 
 int main(void)
 {
-    int slots = 0, written_marks = 0, numbers = 0;
+    int slots = 0, written_marks = 0, numbers = 0, names = 0;
     check_fresh();
     check_buffer(0, 0, TUFFALEEN_DONE);
     for (int off = -1; off <= 1; off += 2) {
@@ -400,7 +673,9 @@ int main(void)
         check_buffer(0, off, TUFFALEEN_STORE_LENGTH);
     }
     check_output();
+    check_discovery_output();
     check_line_length();
+    check_discovery_room();
     if (failures == 0) {
         check_counts();
         check_locks();
@@ -408,10 +683,20 @@ int main(void)
         check_cleared_slots();
         written_marks = check_marks();
         check_soundness();
-        numbers = check_line_answers() + check_call_answers();
+        check_own_response();
+        names = check_fields();
+        for (int off = -1; off <= 1; off++) {
+            check_features(-1, 0x2C + off);
+            check_features(0x0C + off, -1);
+            check_features(0x0C + off, 0x2C - off);
+        }
+        check_features(-1, -1);
+        check_features(0, 0);
+        numbers = check_line_answers() + check_call_answers() + check_no_responses();
     }
     check_version();
     if (failures == 0)
-        printf("layout: %d answers, %d slots, %d marks as the header says\n", numbers, slots, written_marks);
+        printf("layout: %d answers, %d fields, %d slots, %d marks as the header says\n", numbers, names, slots,
+               written_marks);
     return failures != 0;
 }

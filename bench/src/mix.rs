@@ -154,7 +154,7 @@ impl Mix {
             2 => whole[..129].to_string(),
             3 => whole[..128].to_string(),
             4 => whole + "000000000000",
-            _ => "0C".to_string() + &whole[2..],
+            _ => "FF".to_string() + &whole[2..],
         }
     }
 }

@@ -1,10 +1,14 @@
 //! Wrong rules for the model, one for each thing that is compared: a run with one must end in a
 //! difference, else the comparison is blind.
 
+use model::discovery::read;
+use model::numbers::ROOM;
 use model::status;
 
 use crate::arena::{Arena, Lengths};
 use crate::oracle::{Function, Outcome};
+use crate::places::PLACES;
+use crate::responses::*;
 
 #[derive(Clone, Copy)]
 pub enum Rule {
@@ -16,6 +20,15 @@ pub enum Rule {
     Text,
     Output,
     Guard,
+    /// The line 0C needs no more room than another.
+    Room,
+    /// Of two features the last counts.
+    First,
+    /// A short feature is read, as if zeros followed.
+    Short,
+    Fields,
+    Behind,
+    Data,
 }
 
 impl Rule {
@@ -29,6 +42,12 @@ impl Rule {
             "text" => Rule::Text,
             "output" => Rule::Output,
             "guard" => Rule::Guard,
+            "room" => Rule::Room,
+            "first" => Rule::First,
+            "short" => Rule::Short,
+            "fields" => Rule::Fields,
+            "behind" => Rule::Behind,
+            "data" => Rule::Data,
             _ => return None,
         })
     }
@@ -44,6 +63,7 @@ impl Rule {
         let given = outcome.number;
         let met = |number: u16| function == Function::Line && given == number;
         let open = outcome.lines > 0 && !arena.text(lengths.text).ends_with(b"\n");
+        let cramped = lengths.out >= ROOM && arena.text(lengths.text) == b"0C";
         let wider = Lengths { out: lengths.out + 1, ..*lengths };
         match self {
             Rule::Number if met(status::OLD_KEY_UID) => outcome.number = status::OTHER_KEY,
@@ -54,7 +74,45 @@ impl Rule {
             Rule::Text if met(status::TAG_COUNT) => arena.lend(lengths).text[0] ^= 1,
             Rule::Output if met(status::BLOCK_RANGE) => arena.lend(lengths).out[12] ^= 1,
             Rule::Guard if met(status::OUTPUT) => arena.lend(&wider).out[lengths.out] ^= 1,
+            Rule::Room if met(status::OUTPUT) && cramped => outcome.number = status::DONE,
             _ => {}
         }
+    }
+
+    /// Data in which the model finds what a reader with the wrong rule finds in this.
+    pub fn misread(self, data: &[u8]) -> Vec<u8> {
+        if read(data).is_err() {
+            return data.to_vec();
+        }
+        let mut features = features_of(data);
+        match self {
+            Rule::First => features.reverse(),
+            Rule::Short => features.iter_mut().for_each(pad),
+            _ => {}
+        }
+        response(&data[..HEADER], &features)
+    }
+
+    /// Makes the model's memory that of a reader with the wrong rule. Guards follow the data, and
+    /// the places.
+    pub fn spoil_read(self, number: u16, data: &mut [u8], places: &mut [u32]) {
+        match self {
+            Rule::Fields if number == status::DISCOVERY => places[0] = 0,
+            Rule::Behind if number == status::DONE => places[PLACES] = 0,
+            Rule::Data if number == status::DONE => data[HEADER] ^= 1,
+            _ => {}
+        }
+    }
+}
+
+fn pad(feature: &mut Vec<u8>) {
+    let whole = match u16::from_be_bytes([feature[0], feature[1]]) {
+        TPER => TPER_LENGTH,
+        KEY_PER_IO => KEY_PER_IO_LENGTH,
+        _ => 0,
+    };
+    if feature[3] < whole {
+        feature.resize(HEAD + usize::from(whole), 0);
+        feature[3] = whole;
     }
 }

@@ -1,7 +1,7 @@
 //! The other side of the cable: what it sends next, and what goes wrong with a call.
 
 use embed::Rng;
-use model::numbers::{IMAGE, ROOM, STORE};
+use model::numbers::{DISCOVERY_ROOM, IMAGE, STORE};
 use model::status;
 
 use crate::arena::Lengths;
@@ -12,6 +12,8 @@ use crate::universe::frame;
 
 /// How far from the right length a wrong one is, mostly.
 pub const NEAR: usize = 40;
+/// What an output has at most beyond what its lines need.
+pub const SPARE: usize = DISCOVERY_ROOM + NEAR;
 
 pub struct Host {
     pub rng: Rng,
@@ -35,13 +37,13 @@ impl Host {
         &self.line
     }
 
-    /// An output for so many lines: too short, exact or longer.
-    pub fn room(&mut self, lines: usize) -> usize {
-        let need = lines * ROOM;
+    /// An output for lines that need so much: too short, exact or longer.
+    pub fn room(&mut self, need: usize) -> usize {
         match self.rng.below(64) {
             0 => self.rng.below(need + 1),
             1 => need.saturating_sub(1),
-            2..=31 => need + self.rng.below(NEAR),
+            2 => need + self.rng.below(SPARE),
+            3..=31 => need + self.rng.below(NEAR),
             _ => need,
         }
     }

@@ -17,6 +17,12 @@ pub fn to_digits(frame: &[u8], line: &mut Vec<u8>) {
     }
 }
 
+pub fn from_digits(digits: &[u8]) -> Option<Vec<u8>> {
+    let value = |digit: &u8| Some(DIGITS.iter().position(|known| known == digit)? as u8);
+    let byte = |pair: &[u8]| Some(value(pair.first()?)? << 4 | value(pair.get(1)?)?);
+    digits.chunks(2).map(byte).collect()
+}
+
 pub fn damage_line(rng: &mut Rng, line: &mut Vec<u8>) {
     let at = rng.below(line.len());
     match rng.below(13) {

@@ -1,7 +1,7 @@
 //! The proved drive against the model, call by call, through the C interface.
 //! `cargo run --release --offline -- CALLS SEED [--broken RULE]`
 //!
-//! Exit status: 0 no difference; 1 a difference; 2 bad usage; 3 a number of the paper never met.
+//! Exit status: 0 no difference; 1 a difference; 2 bad usage; 3 something never met that must be.
 
 use std::env::args;
 use std::process::ExitCode;
@@ -13,6 +13,10 @@ mod host;
 mod hostile;
 mod oracle;
 mod pair;
+mod places;
+mod reader;
+mod reads;
+mod responses;
 mod sweeps;
 mod tally;
 mod universe;
@@ -21,17 +25,20 @@ mod walk;
 use broken::Rule;
 use embed::Rng;
 use pair::Difference;
+use reads::Reads;
 use sweeps::Sweeps;
 use tally::Tally;
 use walk::{LineWalk, TextWalk};
 
 const USAGE: &str = "usage: embed CALLS SEED [--broken RULE]
-RULE: number, written, lines, image, marks, text, output, guard";
+RULE: number, written, lines, image, marks, text, output, guard, room, first, short, fields,
+behind, data";
 
 /// With fewer calls a number that is not met says nothing.
 const ENOUGH: u64 = 200_000;
-/// One text for so many lines.
-const LINES_A_TEXT: usize = 32;
+/// Of so many turns one goes to a text and so many to reads; the others to a line each.
+const TURNS: usize = 32;
+const READS: usize = 8;
 
 struct Asked {
     calls: u64,
@@ -71,7 +78,7 @@ fn asked(words: &[String]) -> Option<Asked> {
     Some(Asked { calls: calls.parse().ok()?, seed: seed.parse().ok()?, broken })
 }
 
-/// The sweeps, then walks of at least as many calls as were asked.
+/// The sweeps, then walks and reads of at least as many calls as were asked.
 fn run(asked: &Asked, tally: &mut Tally) -> Result<(), Difference> {
     let mut rng = Rng::new(asked.seed);
     let mut sweeps = Sweeps::new(rng.word(), asked.broken);
@@ -80,14 +87,21 @@ fn run(asked: &Asked, tally: &mut Tally) -> Result<(), Difference> {
     swept?;
     let mut by_line = LineWalk::new(rng.word(), asked.broken);
     let mut by_text = TextWalk::new(rng.word(), asked.broken);
-    let mut walked = Ok(());
-    while walked.is_ok() && by_line.pair.tally.calls + by_text.pair.tally.calls < asked.calls {
-        walked = match rng.below(LINES_A_TEXT) {
+    let mut reads = Reads::new(rng.word(), asked.broken);
+    let mut walked = reads.run();
+    let before = reads.reader.tally.calls;
+    let mut calls = 0;
+    while walked.is_ok() && calls < asked.calls {
+        walked = match rng.below(TURNS) {
             0 => by_text.step(),
+            1..=READS => reads.step(),
             _ => by_line.step(),
         };
+        let read = reads.reader.tally.calls - before;
+        calls = by_line.pair.tally.calls + by_text.pair.tally.calls + read;
     }
     tally.add(&by_line.pair.tally);
     tally.add(&by_text.pair.tally);
+    tally.add(&reads.reader.tally);
     walked
 }

@@ -2,8 +2,8 @@
 //! model's own.
 
 use embed::proved;
-use model::numbers::{IMAGE, ROOM, STORE};
-use model::{status, Drive};
+use model::numbers::{IMAGE, STORE};
+use model::{room, session_room, status, Drive};
 
 use crate::arena::Lent;
 
@@ -41,13 +41,16 @@ impl Function {
     pub fn by_model(self, lent: Lent) -> Outcome {
         match self {
             Function::Start => start(lent),
-            Function::Line => with_drive(lent, 1, |drive, marks, line, out| {
-                let (number, written) = drive.line(marks, line, out);
-                Outcome::of(number, 0, written)
-            }),
+            Function::Line => {
+                let need = room(lent.text);
+                with_drive(lent, need, |drive, marks, line, out| {
+                    let (number, written) = drive.line(marks, line, out);
+                    Outcome::of(number, 0, written)
+                })
+            }
             Function::Session => {
-                let lines = lines(lent.text);
-                with_drive(lent, lines, |drive, marks, text, out| {
+                let need = session_room(lent.text);
+                with_drive(lent, need, |drive, marks, text, out| {
                     let (number, lines, written) = drive.session(marks, text, out);
                     Outcome::of(number, lines, written)
                 })
@@ -78,11 +81,11 @@ fn start(lent: Lent) -> Outcome {
 
 fn with_drive(
     lent: Lent,
-    lines: usize,
+    need: usize,
     call: impl FnOnce(&mut Drive, &mut [u8], &[u8], &mut [u8]) -> Outcome,
 ) -> Outcome {
     let Some(mut drive) = Drive::from_image(lent.image) else {
-        return Outcome::of(refusal_without_drive(&lent, lines), 0, 0);
+        return Outcome::of(refusal_without_drive(&lent, need), 0, 0);
     };
     let outcome = call(&mut drive, lent.marks, lent.text, lent.out);
     lent.image.copy_from_slice(&drive.to_image());
@@ -90,8 +93,8 @@ fn with_drive(
 }
 
 /// The model has no state for such an image, so the order of the three refusals is told here.
-fn refusal_without_drive(lent: &Lent, lines: usize) -> u16 {
-    if lent.out.len() < lines * ROOM {
+fn refusal_without_drive(lent: &Lent, need: usize) -> u16 {
+    if lent.out.len() < need {
         status::OUTPUT
     } else if lent.marks.len() != STORE {
         status::STORE

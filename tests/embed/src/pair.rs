@@ -46,8 +46,11 @@ impl Pair {
             return Err(self.difference(function, &lengths, [proved, model]));
         }
         self.tally.call(function, model.number);
-        if function == Function::Session {
-            self.tally.answers(self.model.out(model.written));
+        let (text, out) = (self.model.text(lengths.text), self.model.out(model.written));
+        match function {
+            Function::Start => {}
+            Function::Line => self.tally.line(text, out, lengths.out),
+            Function::Session => self.tally.answers(text, out),
         }
         Ok(model)
     }

@@ -30,6 +30,13 @@ extern "C" {
         lines: *mut usize,
         written: *mut usize,
     ) -> u16;
+
+    fn tuffaleen_discovery(
+        data: *const u8,
+        data_len: usize,
+        fields: *mut u32,
+        fields_len: usize,
+    ) -> u16;
 }
 
 /// The number.
@@ -82,4 +89,10 @@ pub fn session(
         )
     };
     (number, lines, written)
+}
+
+/// The number.
+pub fn discovery(data: &[u8], fields: &mut [u32]) -> u16 {
+    // SAFETY: the slices are valid for their lengths and do not overlap.
+    unsafe { tuffaleen_discovery(data.as_ptr(), data.len(), fields.as_mut_ptr(), fields.len()) }
 }

@@ -4,16 +4,30 @@
 
 use embed::Rng;
 use model::lines::*;
-use model::numbers::{IMAGE, NAMESPACES, ROOM, STORE};
-use model::{status, Drive};
+use model::numbers::{DISCOVERY_ROOM, IMAGE, NAMESPACES, ROOM, STORE};
+use model::{room, session_room, status, Drive};
 
 use crate::arena::Lengths;
 use crate::broken::Rule;
 use crate::hostile::random_state;
-use crate::oracle::{lines, Function};
+use crate::oracle::Function;
 use crate::pair::{Difference, Pair, State};
 
 const NEAR: usize = 64;
+
+/// What is given every output: lines of both rooms, with and without a last line feed.
+const TEXTS: [&str; 10] = [
+    "",
+    "\n",
+    "09",
+    "09\n",
+    "09\n\n0B01",
+    "010304\n09\n0B02\n05010000\n09\n09\n",
+    "0C",
+    "0C\n",
+    "0C\n09\n0B00\n",
+    "\n0C\n0c\n0C00\n0C",
+];
 
 pub struct Sweeps {
     pub pair: Pair,
@@ -26,7 +40,7 @@ type Done = Result<(), Difference>;
 
 impl Sweeps {
     pub fn new(seed: u64, broken: Option<Rule>) -> Sweeps {
-        let rooms = Lengths { image: 2 * IMAGE, marks: 2 * STORE, text: 8 * NEAR, out: 8 * NEAR };
+        let rooms = Lengths { image: 2 * IMAGE, marks: 2 * STORE, text: 8 * NEAR, out: 16 * NEAR };
         Sweeps { pair: Pair::new(rooms, broken), rng: Rng::new(seed), used: used() }
     }
 
@@ -73,26 +87,29 @@ impl Sweeps {
         let marks = near(STORE).map(|marks| (IMAGE, marks));
         let both = near(STORE).map(|marks| (IMAGE + 1, marks));
         for (image, marks) in image.chain(marks).chain(both) {
-            self.pair.say(b"0B01\n0B01");
-            for out in [0, ROOM - 1, ROOM, 2 * ROOM] {
-                let lengths = Lengths { image, marks, text: 4, out };
-                self.pair.call(Function::Line, lengths)?;
-                self.pair.call(Function::Session, Lengths { text: 9, ..lengths })?;
-                self.pair.call(Function::Session, Lengths { text: 0, ..lengths })?;
+            for (line, text) in [("0B01", "0B01\n0B01"), ("0C", "0C\n0C")] {
+                self.pair.say(text.as_bytes());
+                let need = room(line.as_bytes());
+                for out in [0, need - 1, need, 2 * need] {
+                    let lengths = Lengths { image, marks, text: line.len(), out };
+                    self.pair.call(Function::Line, lengths)?;
+                    self.pair.call(Function::Session, Lengths { text: text.len(), ..lengths })?;
+                    self.pair.call(Function::Session, Lengths { text: 0, ..lengths })?;
+                }
             }
         }
         Ok(())
     }
 
     fn outputs(&mut self) -> Done {
-        for line in ["09", "0B00", "", "010102", "0G"] {
-            for out in 0..2 * NEAR {
+        for line in ["09", "0B00", "", "010102", "0G", "0C", "0c", "0C00", "0D"] {
+            for out in 0..DISCOVERY_ROOM + 2 * NEAR {
                 self.pair.restore(&self.used);
                 say(&mut self.pair, line, out)?;
             }
         }
-        for text in ["", "\n", "09", "09\n", "09\n\n0B01", "010304\n09\n0B02\n05010000\n09\n09\n"] {
-            for out in 0..=lines(text.as_bytes()) * ROOM + 2 * ROOM {
+        for text in TEXTS {
+            for out in 0..=session_room(text.as_bytes()) + DISCOVERY_ROOM {
                 self.pair.restore(&self.used);
                 self.pair.say(text.as_bytes());
                 self.pair.call(Function::Session, Lengths::right(text.len(), out))?;
@@ -109,6 +126,7 @@ impl Sweeps {
                 let old = self.used.image[at];
                 self.pair.change(|image, _| image[at] = value);
                 say(&mut self.pair, "09", ROOM)?;
+                say(&mut self.pair, "0C", DISCOVERY_ROOM)?;
                 self.pair.change(|image, _| image[at] = old);
             }
         }
@@ -121,8 +139,9 @@ impl Sweeps {
             for at in (0..frame.len()).step_by(2) {
                 for value in 0..=255 {
                     let line = [&frame[..at], &hex(&[value]), &frame[at + 2..]].concat();
+                    let out = room(line.as_bytes());
                     self.pair.restore(&self.used);
-                    say(&mut self.pair, line, ROOM)?;
+                    say(&mut self.pair, line, out)?;
                 }
             }
         }
@@ -131,13 +150,14 @@ impl Sweeps {
 
     /// Every value of every digit of some lines.
     fn digits(&mut self) -> Done {
-        for line in ["010304", "05010000", "09", "0B01"] {
+        for line in ["010304", "05010000", "09", "0B01", "0C"] {
             for at in 0..line.len() {
                 for value in 0..=255 {
                     let mut line = line.as_bytes().to_vec();
                     line[at] = value;
+                    let out = room(&line);
                     self.pair.restore(&self.used);
-                    say(&mut self.pair, line, ROOM)?;
+                    say(&mut self.pair, line, out)?;
                 }
             }
         }
@@ -176,7 +196,7 @@ fn used() -> State {
 }
 
 /// One of each kind, accepted by the used drive but for the boot write.
-fn frames() -> [String; 11] {
+fn frames() -> [String; 12] {
     [
         manage(3, 29),
         release(1),
@@ -189,5 +209,6 @@ fn frames() -> [String; 11] {
         get_features(),
         boot_write(0),
         power_cycle(),
+        discovery(),
     ]
 }

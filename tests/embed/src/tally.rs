@@ -1,11 +1,14 @@
-//! How often each number of the paper was met, by what gave it.
+//! How often each number of the paper was met, by what gave it, and what a run must meet besides.
 
+use model::numbers::{DISCOVERY_ROOM, ROOM};
 use model::status::*;
 
 use crate::oracle::Function;
 
-const COLUMNS: [&str; 4] = ["start", "line", "session", "in sessions"];
+const COLUMNS: [&str; 5] = ["start", "line", "session", "in sessions", "discovery"];
 const IN_SESSIONS: usize = 3;
+/// The function of a host.
+const READ: usize = 4;
 
 /// Every number of the paper is below this.
 const LIMIT: usize = 0x0800;
@@ -35,15 +38,40 @@ const OF_LINES: [u16; 21] = [
     OTHER_KEY,
 ];
 const OF_CALLS: [u16; 3] = [STORE, UNSOUND, OUTPUT];
+const OF_READS: [u16; 3] = [DONE, OUTPUT, DISCOVERY];
+
+/// Of lines of kind 0C and of reads.
+#[derive(Clone, Copy)]
+pub enum Event {
+    /// The output was long enough for any other line.
+    NoRoom,
+    LineRefused,
+    LineAnswered,
+    RefusedInSession,
+    AnsweredInSession,
+    NoTper,
+    NoKeyPerIo,
+}
+
+const EVENTS: [&str; 7] = [
+    "line 0C, 13 to 228 bytes of output",
+    "line of kind 0C, answer of 5 bytes",
+    "line 0C, answer of 229 bytes",
+    "line of kind 0C in a session, answer of 5 bytes",
+    "line 0C in a session, answer of 229 bytes",
+    "discovery, TPer absent",
+    "discovery, Key Per I/O absent",
+];
 
 pub struct Tally {
     counts: Vec<[u64; COLUMNS.len()]>,
+    events: [u64; EVENTS.len()],
     pub calls: u64,
 }
 
 impl Tally {
     pub fn new() -> Tally {
-        Tally { counts: vec![[0; COLUMNS.len()]; LIMIT], calls: 0 }
+        Tally { counts: vec![[0; COLUMNS.len()]; LIMIT], events: [0; EVENTS.len()], calls: 0 }
     }
 
     pub fn call(&mut self, function: Function, number: u16) {
@@ -51,11 +79,39 @@ impl Tally {
         self.counts[usize::from(number)][function as usize] += 1;
     }
 
-    pub fn answers(&mut self, out: &[u8]) {
-        for answer in out.split_inclusive(|&byte| byte == b'\n') {
+    pub fn read(&mut self, number: u16) {
+        self.calls += 1;
+        self.counts[usize::from(number)][READ] += 1;
+    }
+
+    pub fn event(&mut self, event: Event) {
+        self.events[event as usize] += 1;
+    }
+
+    /// A line, what it was answered, and the output that it had.
+    pub fn line(&mut self, line: &[u8], answer: &[u8], out: usize) {
+        match answer.len() {
+            0 if line == b"0C" && (ROOM..DISCOVERY_ROOM).contains(&out) => {
+                self.event(Event::NoRoom)
+            }
+            DISCOVERY_ROOM => self.event(Event::LineAnswered),
+            5 if line.starts_with(b"0C") => self.event(Event::LineRefused),
+            _ => {}
+        }
+    }
+
+    /// A text and what its lines were answered, nothing if the call was refused.
+    pub fn answers(&mut self, text: &[u8], out: &[u8]) {
+        let lines = text.split(|&byte| byte == b'\n');
+        for (line, answer) in lines.zip(out.split_inclusive(|&byte| byte == b'\n')) {
             let digit = |&byte: &u8| (byte as char).to_digit(16).expect("a digit") as usize;
             let number = answer[..4].iter().fold(0, |number, byte| number * 16 + digit(byte));
             self.counts[number][IN_SESSIONS] += 1;
+            match answer.len() {
+                DISCOVERY_ROOM => self.event(Event::AnsweredInSession),
+                5 if line.starts_with(b"0C") => self.event(Event::RefusedInSession),
+                _ => {}
+            }
         }
     }
 
@@ -64,17 +120,21 @@ impl Tally {
         for (sums, counts) in self.counts.iter_mut().zip(&other.counts) {
             sums.iter_mut().zip(counts).for_each(|(sum, count)| *sum += count);
         }
+        self.events.iter_mut().zip(&other.events).for_each(|(sum, count)| *sum += count);
     }
 
     pub fn print(&self) {
         println!("number{}", COLUMNS.map(|column| format!("{column:>14}")).concat());
-        for number in OF_LINES.iter().chain(&OF_CALLS) {
+        for number in OF_LINES.iter().chain(&OF_CALLS).chain(&[DISCOVERY]) {
             let counts = self.counts[usize::from(*number)];
             println!("{number:04X}  {}", counts.map(|count| format!("{count:>14}")).concat());
         }
+        for (event, count) in EVENTS.iter().zip(self.events) {
+            println!("{event:<48}{count:>14}");
+        }
     }
 
-    /// The numbers that were never met where they can be.
+    /// The numbers that were never met where they can be, and the events that never came.
     pub fn missed(&self) -> Vec<String> {
         let start = [DONE, STORE, UNSOUND].map(|number| (number, Function::Start as usize));
         let line =
@@ -82,10 +142,12 @@ impl Tally {
         let session =
             OF_CALLS.iter().chain(&[DONE]).map(|&number| (number, Function::Session as usize));
         let inside = OF_LINES.iter().map(|&number| (number, IN_SESSIONS));
-        let wanted = start.into_iter().chain(line).chain(session).chain(inside);
-        wanted
+        let read = OF_READS.map(|number| (number, READ));
+        let wanted = start.into_iter().chain(line).chain(session).chain(inside).chain(read);
+        let numbers = wanted
             .filter(|&(number, column)| self.counts[usize::from(number)][column] == 0)
-            .map(|(number, column)| format!("{number:04X} ({})", COLUMNS[column]))
-            .collect()
+            .map(|(number, column)| format!("{number:04X} ({})", COLUMNS[column]));
+        let events = EVENTS.iter().zip(self.events).filter(|&(_, count)| count == 0);
+        numbers.chain(events.map(|(event, _)| event.to_string())).collect()
     }
 }

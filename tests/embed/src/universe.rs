@@ -1,7 +1,7 @@
 //! Frames over few namespaces, tags, KeyUIDs and keys, so that they meet each other often.
 
 use embed::Rng;
-use model::numbers::{COMMAND, KEY, KEY_UID, NAMESPACES, SLOT, TAGS};
+use model::numbers::{COMMAND, FRAME, KEY, KEY_UID, NAMESPACES, SLOT, TAGS};
 
 /// Lengths and first 8 bytes are shared in every way that a cut or a pad could confuse.
 const KEY_UIDS: [&[u8]; 16] = [
@@ -26,18 +26,19 @@ const KEY_UIDS: [&[u8]; 16] = [
 const COUNTS: [u8; 16] = [1, 2, 2, 3, 4, 4, 8, 12, 16, 20, 31, 32, 32, 0, 33, 255];
 
 /// How often each kind comes, in turns of 256.
-const KINDS: [(u8, u8); 11] = [
+const KINDS: [(u8, u8); 12] = [
     (0x01, 14),
     (0x02, 2),
     (0x03, 61),
     (0x04, 36),
     (0x05, 16),
     (0x06, 2),
-    (0x07, 90),
+    (0x07, 84),
     (0x08, 16),
     (0x09, 6),
     (0x0A, 10),
     (0x0B, 3),
+    (0x0C, 6),
 ];
 
 /// Writes a frame's bytes, likely for a drive with this image.
@@ -55,6 +56,8 @@ pub fn frame(rng: &mut Rng, image: &[u8], frame: &mut Vec<u8>) {
         0x08 => frame.extend(dword_11(rng).to_le_bytes()),
         0x0A => frame.push(rng.pick(&[0, 0, 1, 1, 2, 3, 255])),
         0x0B => frame.push(rng.pick(&[0, 0, 0, 0, 1, 2, 2, 255])),
+        // Longer than it may be.
+        0x0C if rng.once_in(4) => frame.resize(2 + rng.below(FRAME - 1), rng.byte()),
         _ => {}
     }
 }

@@ -1,10 +1,11 @@
 //! Two walks over the drive's states: one line after the other, and one text after the other.
 
-use model::numbers::{IMAGE, ROOM, STORE};
+use model::numbers::{DISCOVERY_ROOM, IMAGE, STORE};
+use model::{room, session_room};
 
 use crate::arena::Lengths;
 use crate::broken::Rule;
-use crate::host::{Host, NEAR};
+use crate::host::{Host, NEAR, SPARE};
 use crate::hostile::LONGEST;
 use crate::oracle::{lines, Function};
 use crate::pair::{Difference, Pair, State};
@@ -30,28 +31,30 @@ struct End {
     state: State,
 }
 
-fn rooms(text: usize, out: usize) -> Lengths {
+/// Each line may ask for discovery.
+fn rooms(text: usize, lines: usize) -> Lengths {
+    let out = lines * DISCOVERY_ROOM + SPARE;
     Lengths { image: IMAGE + NEAR, marks: STORE + NEAR, text, out }
 }
 
 impl LineWalk {
     pub fn new(seed: u64, broken: Option<Rule>) -> LineWalk {
-        LineWalk { pair: Pair::new(rooms(LONGEST, ROOM + NEAR), broken), host: Host::new(seed) }
+        LineWalk { pair: Pair::new(rooms(LONGEST, 1), broken), host: Host::new(seed) }
     }
 
     pub fn step(&mut self) -> Result<(), Difference> {
         self.host.before(&mut self.pair)?;
         let line = self.host.line(self.pair.image());
-        let length = line.len();
+        let (length, need) = (line.len(), room(line));
         self.pair.say(line);
-        let lengths = Lengths::right(length, self.host.room(1));
+        let lengths = Lengths::right(length, self.host.room(need));
         self.host.call(&mut self.pair, Function::Line, lengths).map(|_| ())
     }
 }
 
 impl TextWalk {
     pub fn new(seed: u64, broken: Option<Rule>) -> TextWalk {
-        let rooms = rooms(MOST_LINES * (LONGEST + 1), 2 * MOST_LINES * ROOM);
+        let rooms = rooms(MOST_LINES * (LONGEST + 1), MOST_LINES);
         TextWalk { pair: Pair::new(rooms, broken), host: Host::new(seed), text: Vec::new() }
     }
 
@@ -62,7 +65,7 @@ impl TextWalk {
             return self.step_in_pieces();
         }
         self.pair.say(&self.text);
-        let lengths = Lengths::right(self.text.len(), self.host.room(lines(&self.text)));
+        let lengths = Lengths::right(self.text.len(), self.host.room(session_room(&self.text)));
         self.host.call(&mut self.pair, Function::Session, lengths).map(|_| ())
     }
 
@@ -128,12 +131,12 @@ impl TextWalk {
     ) -> Result<(), Difference> {
         let piece = &self.text[piece];
         let line = piece.strip_suffix(b"\n").unwrap_or(piece);
-        let (function, said) = match lines(piece) {
-            1 if self.host.rng.once_in(2) => (Function::Line, line),
-            _ => (Function::Session, piece),
+        let (function, said, need) = match lines(piece) {
+            1 if self.host.rng.once_in(2) => (Function::Line, line, room(line)),
+            _ => (Function::Session, piece, session_room(piece)),
         };
         self.pair.say(said);
-        let lengths = Lengths::right(said.len(), lines(piece) * ROOM);
+        let lengths = Lengths::right(said.len(), need);
         let outcome = self.pair.call(function, lengths)?;
         end.lines += if function == Function::Line { 1 } else { outcome.lines };
         end.out.extend(self.pair.out(outcome.written));

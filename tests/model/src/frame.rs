@@ -30,6 +30,7 @@ pub enum Frame<'a> {
     GetFeatures,
     BootWrite(u8),
     Reset(u8),
+    Discovery,
 }
 
 pub const DIGITS: &[u8; 16] = b"0123456789ABCDEF";
@@ -78,7 +79,8 @@ pub fn parse(bytes: &[u8]) -> Result<Frame<'_>, u16> {
         [0x09] => Ok(Frame::GetFeatures),
         [0x0A, partition] => Ok(Frame::BootWrite(partition)),
         [0x0B, level] => Ok(Frame::Reset(level)),
-        [0x01..=0x0B, ..] => Err(status::LENGTH),
+        [0x0C] => Ok(Frame::Discovery),
+        [0x01..=0x0C, ..] => Err(status::LENGTH),
         _ => Err(status::KIND),
     }
 }

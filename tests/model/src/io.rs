@@ -51,6 +51,6 @@ fn blocks(command: &[u8; COMMAND]) -> Result<Range<usize>, u16> {
     Ok(first..first + count)
 }
 
-fn field<const N: usize>(bytes: &[u8], at: usize) -> [u8; N] {
+pub(crate) fn field<const N: usize>(bytes: &[u8], at: usize) -> [u8; N] {
     bytes[at..at + N].try_into().unwrap()
 }

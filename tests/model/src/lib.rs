@@ -1,8 +1,10 @@
-//! The drive of the paper (`01-scope.md`), written from the paper alone as ordinary Rust.
+//! The drive of the paper (`01-scope.md`) and of the requests that amend it, written from these alone
+//! as ordinary Rust.
 //!
 //! It shares nothing with the proved code: where the two differ, one of them misread the paper.
 
 mod boot;
+pub mod discovery;
 mod drive;
 mod frame;
 mod io;
@@ -13,3 +15,4 @@ mod session;
 pub mod status;
 
 pub use drive::Drive;
+pub use session::{room, session_room};

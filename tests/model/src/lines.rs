@@ -92,3 +92,7 @@ pub fn controller_reset() -> String {
 pub fn power_cycle() -> String {
     "0B01".to_string()
 }
+
+pub fn discovery() -> String {
+    "0C".to_string()
+}

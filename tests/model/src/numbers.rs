@@ -22,12 +22,16 @@ pub const UNTIL_POWER_CYCLE: u8 = 3;
 /// The bytes of the longest frame, a replace with two KeyUIDs of 16.
 pub const FRAME: usize = 70;
 pub const COMMAND: usize = 64;
-/// The bytes of the longest answer line, which every line must have room for.
+/// The bytes of a discovery response.
+pub const RESPONSE: usize = 112;
+/// What every line must have room for but the line that asks for discovery.
 pub const ROOM: usize = 13;
+/// What that line must have room for: 00 00 and the response as digits, and the line feed.
+pub const DISCOVERY_ROOM: usize = 2 * (2 + RESPONSE) + 1;
 
 /// Counts, locks and keys in one run of bytes.
 pub const IMAGE: usize = NAMESPACES + 2 + KEYS;
 
-/// The most the program reads, and room for as many lines as that can hold.
+/// The most the program reads, and the most it prints.
 pub const INPUT: usize = 4096;
-pub const OUTPUT: usize = INPUT * ROOM;
+pub const OUTPUT: usize = 53_248;

@@ -26,3 +26,4 @@ pub const OTHER_KEY: u16 = 0x070C;
 pub const STORE: u16 = 0x070D;
 pub const UNSOUND: u16 = 0x070E;
 pub const OUTPUT: u16 = 0x070F;
+pub const DISCOVERY: u16 = 0x0716;

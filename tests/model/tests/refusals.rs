@@ -133,7 +133,7 @@ fn not_a_frame_line_0701() {
 #[test]
 fn kind_0702() {
     let mut bench = Bench::new();
-    for kind in (0..=255).filter(|kind| !(1..=11).contains(kind)) {
+    for kind in (0..=255).filter(|kind| !(1..=12).contains(kind)) {
         bench.refuse(hex(&[kind]), "0702");
         bench.refuse(hex(&[kind; 70]), "0702");
     }
@@ -143,7 +143,7 @@ fn kind_0702() {
 fn length_0703() {
     let mut bench = recorded();
     let frames = [manage(2, 1), release(1), clear_one(1, 0), clear_all(1), write(1, 0, 0, 0)];
-    let others = [set_features(9), get_features(), boot_write(0), power_cycle()];
+    let others = [set_features(9), get_features(), boot_write(0), power_cycle(), discovery()];
     let keyed = [load(1, 1, "BB", 0x22), replace(1, 0, "AA", "BB", 0x22)];
     for frame in frames.iter().chain(&others).chain(&keyed) {
         for bytes in 1..=70 {
@@ -203,10 +203,15 @@ fn slots_0709_to_070c() {
 
 /// The number that refuses both a line and a session, with nothing changed or written.
 fn refused_call(bench: &mut Bench, room: usize) -> u16 {
+    refused_with(bench, "0B01", room)
+}
+
+fn refused_with(bench: &mut Bench, line: &str, room: usize) -> u16 {
     let (drive, marks) = (bench.drive.clone(), bench.marks.clone());
     let mut out = vec![b'~'; room];
-    let (number, written) = bench.drive.line(&mut bench.marks, b"0B01", &mut out);
-    let session = bench.drive.session(&mut bench.marks, b"0B01\n", &mut out);
+    let (number, written) = bench.drive.line(&mut bench.marks, line.as_bytes(), &mut out);
+    let text = format!("{line}\n");
+    let session = bench.drive.session(&mut bench.marks, text.as_bytes(), &mut out);
     assert_eq!((session, written), ((number, 0, 0), 0));
     assert!(bench.drive == drive && bench.marks == marks);
     assert!(out.iter().all(|&byte| byte == b'~'));
@@ -261,13 +266,43 @@ fn output_070f() {
     assert_eq!(refused_call(&mut bench, 12), 0x070F);
     let mut out = [0; OUTPUT];
     for (text, lines) in [("", 0), ("\n", 1), ("09", 1), ("09\n\n", 2), ("\n\n09", 3)] {
+        session_asks(&mut bench, text, lines, 13 * lines, &mut out);
+    }
+    for (text, lines) in [("0C\n", 1), ("0C", 1), ("0C\n0C\n", 2), ("0C\n0C", 2)] {
+        session_asks(&mut bench, text, lines, 229 * lines, &mut out);
+    }
+    for text in ["0C\n\n", "0C\n0C00", "0c\n0C", "0C\r\n0C\n", "09\n0C", " 0C\n0C\n"] {
+        session_asks(&mut bench, text, 2, 229 + 13, &mut out);
+    }
+    for (discoveries, others) in [(0, 4096), (13, 3867), (221, 203)] {
+        let text = "0C\n".repeat(discoveries) + &"\n".repeat(others);
+        session_asks(&mut bench, &text, discoveries + others, OUTPUT, &mut out);
+    }
+}
+
+/// With one byte less than it asks for, the session is refused.
+fn session_asks(bench: &mut Bench, text: &str, lines: usize, room: usize, out: &mut [u8]) {
+    let (drive, marks) = (&mut bench.drive, &mut bench.marks);
+    if room > 0 {
+        let short = drive.session(marks, text.as_bytes(), &mut out[..room - 1]);
+        assert_eq!(short, (0x070F, 0, 0), "{text}");
+    }
+    let enough = drive.session(marks, text.as_bytes(), &mut out[..room]);
+    assert_eq!((enough.0, enough.1), (0, lines), "{text}");
+}
+
+#[test]
+fn a_line_asks_for_room_by_its_digits() {
+    let mut bench = recorded();
+    let others = ["", "09", "0C00", "0c", " 0C", "0C ", "0C\r", "0C\n", "C", "0D", "0B00"];
+    for (line, room) in others.map(|line| (line, 13)).into_iter().chain([("0C", 229)]) {
+        let mut out = vec![b'~'; room];
         let (drive, marks) = (&mut bench.drive, &mut bench.marks);
-        if lines > 0 {
-            let short = drive.session(marks, text.as_bytes(), &mut out[..13 * lines - 1]);
-            assert_eq!(short, (0x070F, 0, 0));
-        }
-        let enough = drive.session(marks, text.as_bytes(), &mut out[..13 * lines]);
-        assert_eq!((enough.0, enough.1), (0, lines));
+        let short = drive.line(marks, line.as_bytes(), &mut out[..room - 1]);
+        assert_eq!(short, (0x070F, 0), "{line}");
+        assert!(out.iter().all(|&byte| byte == b'~'));
+        let (number, written) = drive.line(marks, line.as_bytes(), &mut out);
+        assert!(number != 0x070F && (written == room || room == 13), "{line}");
     }
 }
 
@@ -276,9 +311,12 @@ fn room_before_store_before_soundness() {
     let mut bench = recorded();
     bench.drive.counts[0] = 33;
     assert_eq!(refused_call(&mut bench, 13), 0x070E);
+    assert_eq!(refused_with(&mut bench, "0C", 229), 0x070E);
     bench.marks.pop();
     assert_eq!(refused_call(&mut bench, 13), 0x070D);
     assert_eq!(refused_call(&mut bench, 12), 0x070F);
+    assert_eq!(refused_with(&mut bench, "0C", 229), 0x070D);
+    assert_eq!(refused_with(&mut bench, "0C", 228), 0x070F);
 }
 
 #[test]

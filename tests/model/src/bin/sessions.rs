@@ -19,6 +19,8 @@ mod broken;
 mod clear;
 #[path = "sessions/dice.rs"]
 mod dice;
+#[path = "sessions/discovery.rs"]
+mod discovery;
 #[path = "sessions/folder.rs"]
 mod folder;
 #[path = "sessions/forms.rs"]
@@ -86,6 +88,7 @@ fn by_hand() -> Folder {
     marks::add(&mut folder);
     boot::add(&mut folder);
     order::add(&mut folder);
+    discovery::add(&mut folder);
     folder
 }
 

@@ -1,7 +1,7 @@
 //! A drive on the bench: every refusal is checked to change nothing.
 
-use model::numbers::{ROOM, STORE};
-use model::Drive;
+use model::numbers::STORE;
+use model::{room, Drive};
 
 pub struct Bench {
     pub drive: Drive,
@@ -15,7 +15,7 @@ impl Bench {
 
     /// The answer to a line, without its line feed.
     pub fn say(&mut self, line: impl AsRef<[u8]>) -> String {
-        let mut out = [b'~'; ROOM + 1];
+        let mut out = vec![b'~'; room(line.as_ref()) + 1];
         let (number, written) = self.drive.line(&mut self.marks, line.as_ref(), &mut out);
         let text = std::str::from_utf8(&out).unwrap();
         let (answer, untouched) = text.split_once('\n').expect("a line feed");
@@ -31,6 +31,12 @@ impl Bench {
     }
 
     pub fn refuse(&mut self, line: impl AsRef<[u8]>, answer: &str) {
+        assert_ne!(&answer[..4], "0000");
+        self.keep(line, answer);
+    }
+
+    /// An answer that leaves state and marks as they were.
+    pub fn keep(&mut self, line: impl AsRef<[u8]>, answer: &str) {
         let text = String::from_utf8_lossy(line.as_ref()).into_owned();
         let (drive, marks) = (self.drive.clone(), self.marks.clone());
         assert_eq!(self.say(line), answer, "{text}");

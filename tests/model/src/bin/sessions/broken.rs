@@ -2,8 +2,8 @@
 //! of them would not notice that rule broken in the proved program.
 
 use model::lines::{clear_one, set_features};
-use model::numbers::{BLOCKS, INPUT, KEYS, MARK, ROOM, SLOT, STORE, TAGS};
-use model::{status, Drive};
+use model::numbers::{BLOCKS, DISCOVERY_ROOM, INPUT, KEYS, MARK, OUTPUT, ROOM, SLOT, STORE, TAGS};
+use model::{room, status, Drive};
 
 #[derive(Clone, Copy, PartialEq, Eq)]
 pub enum Rule {
@@ -31,9 +31,17 @@ pub enum Rule {
     ControllerReset,
     /// Partition 0 is set before partition 1 is judged.
     Partition,
+    /// A line that asks for discovery needs no more room than another.
+    DiscoveryRoom,
+    /// Every line of kind 0C needs the room of a response.
+    DiscoveryKind,
+    /// The response's length counts its own 4 bytes.
+    DiscoveryLength,
+    /// Discovery locks the boot partitions.
+    DiscoveryLocks,
 }
 
-const NAMES: [(&str, Rule); 12] = [
+const NAMES: [(&str, Rule); 16] = [
     ("small-letters", Rule::SmallLetters),
     ("last-line", Rule::LastLine),
     ("input", Rule::Input),
@@ -46,6 +54,10 @@ const NAMES: [(&str, Rule); 12] = [
     ("power-cycle", Rule::PowerCycle),
     ("controller-reset", Rule::ControllerReset),
     ("partition", Rule::Partition),
+    ("discovery-room", Rule::DiscoveryRoom),
+    ("discovery-kind", Rule::DiscoveryKind),
+    ("discovery-length", Rule::DiscoveryLength),
+    ("discovery-locks", Rule::DiscoveryLocks),
 ];
 
 impl Rule {
@@ -62,8 +74,19 @@ impl Rule {
         if self == Rule::LastLine || text.is_empty() || text.ends_with(b"\n") {
             lines.pop();
         }
+        if lines.iter().map(|line| self.room(line)).sum::<usize>() > OUTPUT {
+            return b"070F\n".to_vec();
+        }
         let mut bench = Bench { drive: Drive::fresh(), marks: [0; STORE] };
         lines.into_iter().flat_map(|line| bench.answer(self, line)).collect()
+    }
+
+    fn room(self, line: &[u8]) -> usize {
+        match self {
+            Rule::DiscoveryRoom => ROOM,
+            Rule::DiscoveryKind if line.starts_with(b"0C") => DISCOVERY_ROOM,
+            _ => room(line),
+        }
     }
 }
 
@@ -74,7 +97,7 @@ struct Bench {
 
 impl Bench {
     fn line(&mut self, line: &[u8]) -> (u16, Vec<u8>) {
-        let mut out = vec![0; ROOM];
+        let mut out = vec![0; room(line)];
         let (number, written) = self.drive.line(&mut self.marks, line, &mut out);
         out.truncate(written);
         (number, out)
@@ -110,6 +133,10 @@ impl Bench {
             (Rule::Partition, b"08") if number == status::LOCK_FIXED => {
                 self.line(set_features(u32::from(byte(line, 1) & 7)).as_bytes());
             }
+            (Rule::DiscoveryLength, b"0C") if done => {
+                return [b"000000000070", &out[12..]].concat();
+            }
+            (Rule::DiscoveryLocks, b"0C") if done => self.drive.locks = [2; 2],
             _ => {}
         }
         out

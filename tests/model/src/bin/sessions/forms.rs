@@ -2,6 +2,7 @@
 
 use model::lines::*;
 
+use crate::discovery;
 use crate::folder::Folder;
 
 const GET: &str = "000012000000\n";
@@ -130,9 +131,9 @@ fn lower_case(folder: &mut Folder) {
             (controller_reset().to_lowercase(), "0701"),
             (power_cycle().to_lowercase(), "0701"),
             (read(1, 0, 0, 0), "0000"),
-            ("0c".to_string(), "0701"),
+            ("0d".to_string(), "0701"),
             ("ff".to_string(), "0701"),
-            ("0C".to_string(), "0702"),
+            ("0D".to_string(), "0702"),
         ],
     );
 }
@@ -166,6 +167,7 @@ fn line_ends(folder: &mut Folder) {
 fn kinds(folder: &mut Folder) {
     let answer = |kind| match kind {
         0x09 => "000012000000",
+        0x0C => discovery::answer(),
         0x01..=0x0B => "0703",
         _ => "0702",
     };
@@ -175,21 +177,21 @@ fn kinds(folder: &mut Folder) {
         0x02 | 0x06 => "000B",
         0x0A => "011E",
         0x0B => "0000",
-        0x01..=0x0B => "0703",
+        0x01..=0x0C => "0703",
         _ => "0702",
     };
     folder.add("kind-every-byte-and-00", (0..=255).map(|kind| (hex(&[kind, 0]), answer(kind))));
 }
 
 fn unknown_kinds(folder: &mut Folder) {
-    for kind in [0x00, 0x0C, 0xFF] {
+    for kind in [0x00, 0x0D, 0xFF] {
         let lengths = |lengths: std::ops::RangeInclusive<usize>| {
             lengths.map(move |length| (format!("{kind:02X}{}", "01".repeat(length - 1)), "0702"))
         };
         folder.add(format!("kind-{kind:02x}-of-1-to-60-bytes"), lengths(1..=60));
         folder.add(format!("kind-{kind:02x}-of-61-to-70-bytes"), lengths(61..=70));
     }
-    let others = [0x0C, 0x0D, 0x0F, 0x10, 0x11, 0x17, 0x19, 0x70, 0x7F, 0x80, 0x81, 0x90, 0xFE];
+    let others = [0x0D, 0x0E, 0x0F, 0x10, 0x11, 0x17, 0x19, 0x70, 0x7F, 0x80, 0x81, 0x90, 0xFE];
     folder.add(
         "kind-unknown-before-a-whole-command",
         others.map(|kind: u8| (format!("{kind:02X}{}", &read(1, 0, 0, 0)[2..]), "0702")),

@@ -1,6 +1,6 @@
 //! The sessions that are kept as files, for people: by family, which is a folder of `tests/sessions`.
 
-pub const KEPT: [(&str, &[&str]); 10] = [
+pub const KEPT: [(&str, &[&str]); 11] = [
     (
         "paper",
         &[
@@ -102,6 +102,17 @@ pub const KEPT: [(&str, &[&str]); 10] = [
             "order-replace-0025-before-070a-070b-070c",
             "order-replace-070a-before-070b-and-070c",
             "order-replace-lengths",
+        ],
+    ),
+    (
+        "discovery",
+        &[
+            "discovery-on-a-fresh-drive",
+            "discovery-changes-nothing",
+            "discovery-nearly-its-line",
+            "discovery-last-without-line-feed",
+            "discovery-233-lines",
+            "discovery-221-lines-and-204-empty",
         ],
     ),
 ];

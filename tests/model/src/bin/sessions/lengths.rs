@@ -2,6 +2,7 @@
 
 use model::lines::*;
 
+use crate::discovery;
 use crate::folder::{Folder, Lines};
 
 const A16: &str = "A0A1A2A3A4A5A6A7A8A9AAABACADAEAF";
@@ -12,6 +13,7 @@ pub fn add(folder: &mut Folder) {
     slots(folder);
     commands(folder);
     boot(folder);
+    level_0(folder);
     load_truncated(folder);
     load_bad_length_byte(folder);
     replace_truncated(folder);
@@ -88,6 +90,11 @@ fn boot(folder: &mut Folder) {
         (get_features(), "000012000000"),
     ];
     at_every_length(folder, "reset", setup, &power_cycle(), proof);
+}
+
+fn level_0(folder: &mut Folder) {
+    let proof = vec![(discovery(), discovery::answer())];
+    at_every_length(folder, "discovery", vec![], &discovery(), proof);
 }
 
 /// Every cut of a line at a digit: an odd one is no frame line, an even one too short a frame.

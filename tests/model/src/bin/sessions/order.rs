@@ -32,12 +32,12 @@ fn line_kind_length(folder: &mut Folder) {
     folder.add(
         "order-0701-before-0702",
         [
-            ("0C0".to_string(), "0701"),
-            ("0c".to_string(), "0701"),
-            ("0C\r".to_string(), "0701"),
+            ("0D0".to_string(), "0701"),
+            ("0d".to_string(), "0701"),
+            ("0D\r".to_string(), "0701"),
             ("FF".repeat(71), "0701"),
-            ("0C 0".to_string(), "0701"),
-            ("0C".to_string(), "0702"),
+            ("0D 0".to_string(), "0701"),
+            ("0D".to_string(), "0702"),
         ],
     );
     folder.add(
@@ -58,9 +58,9 @@ fn line_kind_length(folder: &mut Folder) {
         [
             ("00".to_string(), "0702"),
             ("0001".to_string(), "0702"),
-            ("0C0102".to_string(), "0702"),
+            ("0D0102".to_string(), "0702"),
             ("FF01000011".to_string(), "0702"),
-            ("0C".repeat(70), "0702"),
+            ("0D".repeat(70), "0702"),
         ],
     );
 }
@@ -90,6 +90,7 @@ fn length_first(folder: &mut Folder) {
             (boot_write(2) + LONG, "0703"),
             ("0B02".to_string() + LONG, "0703"),
             ("0900".to_string(), "0703"),
+            ("0C00".to_string(), "0703"),
         ],
     );
 }

@@ -1,6 +1,7 @@
 //! Sessions from seeds: walks, and a few of noise, with what an input can have at its end.
 
-use model::numbers::INPUT;
+use model::numbers::{DISCOVERY_ROOM, INPUT, OUTPUT, ROOM};
+use model::session_room;
 
 use crate::dice::Dice;
 use crate::walk::Walk;
@@ -17,6 +18,7 @@ pub fn session(seed: u64) -> Vec<u8> {
         2 => filled(seed, INPUT),
         3 => filled(seed, INPUT + 1),
         4 => filled(seed, INPUT + 2 + seed as usize),
+        5 => crowded(seed),
         _ => walked(seed),
     }
 }
@@ -51,6 +53,24 @@ fn filled(seed: u64, bytes: usize) -> Vec<u8> {
         text.extend_from_slice(walk.dice.pick(&[&b"09\n"[..], b"0B00\n", b"\n"]));
     }
     text.truncate(bytes);
+    text
+}
+
+/// A walk with further lines until there is room for no other; in half of the sessions one more.
+fn crowded(seed: u64) -> Vec<u8> {
+    let mut walk = Walk::new(seed);
+    let mut text = up_to(&mut walk, 1000);
+    let small = [&b"\n"[..], b"0C00\n", b"0c\n", b"09\n"];
+    loop {
+        text.extend_from_slice(match OUTPUT - session_room(&text) {
+            DISCOVERY_ROOM.. if !walk.dice.once_in(8) => b"0C\n",
+            ROOM.. => walk.dice.pick(&small),
+            _ => break,
+        });
+    }
+    if walk.dice.once_in(2) {
+        text.extend_from_slice(walk.dice.pick(&small));
+    }
     text
 }
 

@@ -1,11 +1,14 @@
-//! How often each number is the answer in the sessions from seeds.
+//! How often each number is the answer in the sessions from seeds, and how often a discovery response.
 
 use std::collections::BTreeMap;
 
+use model::numbers::DISCOVERY_ROOM;
 use model::status::*;
 
 /// Fewer of one than this, and the sessions say too little of it.
 const LEAST: usize = 20;
+
+const RESPONSES: &str = "responses";
 
 /// All that the program can print but 00 00.
 const REFUSALS: [u16; 21] = [
@@ -38,7 +41,9 @@ pub struct Tally(BTreeMap<String, usize>);
 impl Tally {
     pub fn add(&mut self, printed: &[u8]) {
         for answer in String::from_utf8_lossy(printed).lines() {
-            *self.0.entry(answer[..4].to_string()).or_default() += 1;
+            let is_response = answer.len() + 1 == DISCOVERY_ROOM;
+            let name = if is_response { RESPONSES } else { &answer[..4] };
+            *self.0.entry(name.to_string()).or_default() += 1;
         }
     }
 
@@ -47,12 +52,13 @@ impl Tally {
         self.0.iter().map(of).collect::<Vec<_>>().join(", ")
     }
 
-    /// The refusals that came too seldom.
+    /// The answers that came too seldom.
     pub fn rare(&self) -> Vec<String> {
         let times = |number: &String| self.0.get(number).copied().unwrap_or(0);
         REFUSALS
             .map(|number| format!("{number:04X}"))
             .into_iter()
+            .chain([RESPONSES.to_string()])
             .filter(|n| times(n) < LEAST)
             .collect()
     }

@@ -2,7 +2,7 @@
 //! then a number at or past its limit, and one line in five broken at one place.
 
 use model::lines::*;
-use model::numbers::{BLOCKS, HEAD, KEY, NAMESPACES, ROOM, SLOT, STORE, TAGS};
+use model::numbers::{BLOCKS, DISCOVERY_ROOM, HEAD, KEY, NAMESPACES, SLOT, STORE, TAGS};
 use model::Drive;
 
 use crate::dice::Dice;
@@ -31,7 +31,7 @@ impl Walk {
         let frame = self.frame();
         let line = if self.dice.once_in(BROKEN) { self.broken(frame) } else { frame.into_bytes() };
         for part in line.split(|&byte| byte == b'\n') {
-            self.drive.line(&mut self.marks, part, &mut [0; ROOM]);
+            self.drive.line(&mut self.marks, part, &mut [0; DISCOVERY_ROOM]);
         }
         line
     }
@@ -45,7 +45,7 @@ impl Walk {
         if !loaded && self.dice.once_in(2) {
             return self.load();
         }
-        match self.dice.below(48) {
+        match self.dice.below(50) {
             0..=2 => self.manage(),
             3..=4 => release(self.namespace()),
             5..=10 => self.load(),
@@ -55,7 +55,8 @@ impl Walk {
             39..=42 => self.features(),
             43 => get_features(),
             44..=45 => boot_write(self.dice.pick(&[0, 1, 0, 1, 0, 1, 2, 255])),
-            _ => hex(&[0x0B, self.dice.pick(&[0, 0, 0, 1, 1, 2])]),
+            46..=47 => hex(&[0x0B, self.dice.pick(&[0, 0, 0, 1, 1, 2])]),
+            _ => discovery() + &"00".repeat(self.dice.pick(&[0, 0, 0, 0, 0, 1, 2, 69])),
         }
     }
 
