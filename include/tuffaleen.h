@@ -52,15 +52,16 @@ extern "C" {
 #endif
 
 /*
- * Counts up whenever a size, an offset or the meaning of a byte of image or mark store changes. Store it beside the
+ * Counts up whenever a size, an offset or the meaning of a byte of image or mark store changes (2: a mark holds the
+ * whole KeyUID, 17 bytes; 1 held 9, and its marks cannot be made into these). Store it beside the
  * marks and tag counts, and hand these to no library of another version. The library cannot check that: no byte of the
  * image or of the store holds the version.
  */
-#define TUFFALEEN_LAYOUT_VERSION 1
+#define TUFFALEEN_LAYOUT_VERSION 2
 
 /* Sizes in bytes. */
 #define TUFFALEEN_IMAGE_BYTES 6278   /* an image, exactly */
-#define TUFFALEEN_MARKS_BYTES 9216   /* a mark store, exactly */
+#define TUFFALEEN_MARKS_BYTES 17408  /* a mark store, exactly */
 #define TUFFALEEN_ANSWER_BYTES 13    /* the output that a call must have room for, for each line but the line 0C */
 #define TUFFALEEN_DISCOVERY_BYTES 229 /* the same for the line 0C, which asks for discovery */
 #define TUFFALEEN_LINE_BYTES 140     /* the longest frame line, without its line feed */
@@ -82,9 +83,9 @@ extern "C" {
 
 /*
  * Where things lie in a mark store: namespace order, then block order; the KeyUID's length (0: never written),
- * then its first 8 bytes, padded with zeros.
+ * then the KeyUID, padded with zeros to 16.
  */
-#define TUFFALEEN_MARK_BYTES 9
+#define TUFFALEEN_MARK_BYTES 17
 #define TUFFALEEN_MARK_AT(ns, block) ((((ns) - 1) * 256 + (block)) * TUFFALEEN_MARK_BYTES)
 
 /* Every answer's number: status type in the high byte, status code in the low one. */
@@ -94,7 +95,7 @@ enum tuffaleen_answer {
     TUFFALEEN_INVALID_FIELD = 0x0002,       /* CETYPE, Dword 11, boot partition or reset byte */
     TUFFALEEN_INVALID_NAMESPACE = 0x000B,   /* namespace not 1 to 4 */
     TUFFALEEN_INVALID_KEY_TAG = 0x0025,     /* tag above Maximum Key Tag; or I/O to an empty slot */
-    TUFFALEEN_WRONG_KEY = 0x0028,           /* a covered block was written under another kept identity */
+    TUFFALEEN_WRONG_KEY = 0x0028,           /* a covered block was written under another KeyUID */
     TUFFALEEN_BLOCK_RANGE = 0x0080,         /* blocks reach past 256 */
     TUFFALEEN_LOCK_NOT_CHANGEABLE = 0x010E, /* a boot lock is not changeable now */
     TUFFALEEN_BOOT_WRITE_LOCKED = 0x011E,   /* boot partition not Write Unlocked */
@@ -188,7 +189,7 @@ uint16_t tuffaleen_start(uint8_t *image, size_t image_len, uint8_t *marks, size_
  * written at `out`, and `*written` is 0:
  *
  *   TUFFALEEN_OUTPUT_TOO_SHORT   out_len below 229 for the line 0C, below 13 for any other
- *   TUFFALEEN_STORE_LENGTH       marks_len other than 9216
+ *   TUFFALEEN_STORE_LENGTH       marks_len other than 17408
  *   TUFFALEEN_UNSOUND_STATE      image_len other than 6278; a lock byte outside 1 to 3; a tag count above 32, a sum
  *                                of them above 64; a slot that is loaded at an unallocated tag, has a KeyUID length
  *                                above 16, or has a byte other than zero after its KeyUID or, if empty, anywhere

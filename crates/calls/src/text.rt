@@ -41,9 +41,9 @@ pub(crate) fn find(text: &[u8], from: usize, byte: u8) -> usize
     i
 }
 
-// The number with one digit more; of more than four digits the last four count.
+// The number with one digit more; of more than five digits the last five count.
 fn with_digit(n: usize, digit: u8) -> usize {
-    n % 1000 * 10 + (digit % 10) as usize
+    n % 10_000 * 10 + (digit % 10) as usize
 }
 
 // The first numbers of the text. A byte that is no digit ends a number.

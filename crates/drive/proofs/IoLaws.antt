@@ -20,7 +20,7 @@ use Rattle.rules.specs.declared.Command.{Command}
 use Rattle.rules.specs.declared.Registers.{Registers}
 use Rattle.rules.specs.declared.Refusal.{Refusal}
 use Rattle.rules.specs.declared.Answer.the-variants.{Done}
-use Rattle.rules.specs.Numbers.{blocksEach, uidMost, slotWidth, slotPlaces, identityMost, markWidth, markPlaces, storeSize}
+use Rattle.rules.specs.Numbers.{blocksEach, uidMost, slotWidth, slotPlaces, markWidth, markPlaces, storeSize}
 use Rattle.rules.specs.Checks.{Check, _when_, Verdict, passed, refused, firstRefusal, settle, judged, onlyIf, AllPass}
 use Rattle.rules.specs.Answers.{00·01, 00·02, 00·0B, 00·25, 00·28, 00·80}
 use Rattle.rules.specs.State.{State, Outcome, refuse, obey, noNamespace, count, managed, tagAbove, IsNamespace}
@@ -83,7 +83,7 @@ module _ (c : List ℕ) (whole : length c ≡ slotWidth) (sound : slotUnsound fa
   kept-in : keptIdentity (uidOf c) ≡ part 0 markWidth c
   unfolding keptIdentity part headBytes
   kept-in =
-      ap (λ z. length (uidOf c) ∷ z) (sym (take-padded identityMost uidMost (uidOf c) (omega arith)))
+      ap (λ z. length (uidOf c) ∷ z) (sym (take-padded uidMost uidMost (uidOf c) (omega arith)))
       ∙ ap (part 0 markWidth) (sym (sound-head c whole sound full))
       ∙ part-part 0 headSize 0 markWidth c (omega arith) (omega arith)
 

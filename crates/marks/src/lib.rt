@@ -111,7 +111,7 @@ pub fn some_differs(marks: &[u8], first: usize, n: usize, identity: &[u8]) -> bo
     differs_from(marks, first, n, identity)
 }
 
-// The n marks from first, one by one. The function's own copy of the identity cannot overlap the marks, so a mark is two stores and not nine.
+// The n marks from first, one by one. The function's own copy of the identity cannot overlap the marks, so a mark is two stores and not seventeen.
 fn mark_each(marks: &mut [u8], first: usize, n: usize, identity: &[u8])
     requires { ⌜ ((first + n) * markWidth ≤ length (now marks)) × (length (now identity) ≡ markWidth) ⌝ }
     ensures { λ _. ⌜ now (marks .exit) ≡ fill markWidth first n (now (identity .entry)) (now (marks .entry)) ⌝ }

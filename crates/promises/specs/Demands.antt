@@ -18,7 +18,7 @@ use Rattle.rules.specs.Sessions.{Session, linesOf, endState, answerLines}
 use Rattle.rules.specs.History.{Event, told}
 use Rattle.rules.specs.Promises.{StartRefusedWhen, StartRefusedKeeps, StartsFresh}
 use Rattle.rules.specs.Promises.{RefusedWhen, DoneWhen, RefusedKeeps, Writes, SessionRefusedWhen, SessionRefusedKeeps, SessionAnswers}
-use Rattle.rules.specs.Promises.{SlotAsTold, OneKeyForAKeyUid, CountAsTold, NeverUnsound, SameIdentityOrNever, LoadFindsNothing, PoolTooSmallWhen}
+use Rattle.rules.specs.Promises.{SlotAsTold, OneKeyForAKeyUid, CountAsTold, NeverUnsound, SameKeyUidOrNever, LoadFindsNothing, PoolTooSmallWhen}
 use Rattle.promises.specs.Leaves.{StartLeaves, CallLeaves, SessionLeaves}
 
 -- the output of a session that was not refused shows just these answers, one line after another
@@ -74,7 +74,7 @@ pub record Demands : Type 0 where
   pub session-answers : SessionAnswers SessionLeaves
   -- demand 3, and what else holds since a start
   pub slot-as-told : SlotAsTold SinceStart
-  pub same-identity-or-never : SameIdentityOrNever Answers
+  pub same-key-uid-or-never : SameKeyUidOrNever Answers
   pub one-key-for-a-key-uid : OneKeyForAKeyUid SinceStart
   pub load-finds-nothing : LoadFindsNothing Answers
   pub count-as-told : CountAsTold SinceStart

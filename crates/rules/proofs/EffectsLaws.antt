@@ -17,7 +17,7 @@ use Rattle.cells.proofs.CellsLaws.{length-zeros, length-put, cell-put-same, cel
 use Rattle.cells.proofs.PredicatesLaws.{and-left, and-right}
 use Rattle.rules.specs.declared.Namespace.{Namespace}
 use Rattle.rules.specs.declared.Tag.{Tag}
-use Rattle.rules.specs.Numbers.{blocksEach, tagsMost, slotWidth, slotPlaces, cacheSize, markWidth, storeSize, identityMost}
+use Rattle.rules.specs.Numbers.{blocksEach, tagsMost, slotWidth, slotPlaces, cacheSize, markWidth, storeSize, uidMost}
 use Rattle.rules.specs.State.{State, Sized, keyTag, sameNamespace, sameTag, count, tagAbove, IsNamespace}
 use Rattle.rules.specs.Slots.{Contents, placeOf, slot, emptied, slotBytes, Held, nothing, holding, held, FitKey, IsSlot}
 use Rattle.rules.specs.Marks.{blockOf, mark, keptIdentity, neverWritten, identityOf}
@@ -119,7 +119,7 @@ module _ (s : State) (sized : Sized s) where
 
 pub length-identity : (uid : List ℕ) → length (keptIdentity uid) ≡ markWidth
 unfolding keptIdentity
-length-identity uid = omega (arith, length-padded identityMost (take identityMost uid) (omega (arith, length-take identityMost uid)))
+length-identity uid = omega (arith, length-padded uidMost (take uidMost uid) (omega (arith, length-take uidMost uid)))
 
 pub length-held-identity : (x : Held) → length (identityOf x) ≡ markWidth
 length-held-identity nothing = length-zeros markWidth

@@ -19,8 +19,8 @@ use Rattle.rules.specs.Numbers.{blocksEach}
 use Rattle.rules.specs.Checks.{Check, _when_, judged, onlyIf, AllPass}
 use Rattle.rules.specs.Answers.{lineFeed, 00·28}
 use Rattle.rules.specs.State.{State, Outcome, Rule, refuse, obey, managed, IsNamespace}
-use Rattle.rules.specs.Slots.{Contents, slot, empty, loaded, uidOf, keyOf, contentsOf, Held, nothing, holding, held}
-use Rattle.rules.specs.Marks.{mark, neverWritten, identityOf, differs}
+use Rattle.rules.specs.Slots.{Contents, slot, empty, loaded, uidOf, keyOf, contentsOf, Held, nothing, holding, uidHeld, held}
+use Rattle.rules.specs.Marks.{mark, keptIdentity, neverWritten, identityOf, differs}
 use Rattle.rules.specs.Frames.{manage, load, io, reset}
 use Rattle.rules.specs.Effects.{emptyAllSlots}
 use Rattle.rules.specs.Order as order
@@ -33,14 +33,15 @@ use Rattle.rules.specs.Promises.{Starts, StartRefusedWhen, StartRefusedK
 use Rattle.rules.specs.History.{Event, holds, covers, lastWritten}
 use Rattle.rules.specs.Promises.{Calls, Sessions, FromFresh, Steps, checksOf, sessionChecks, RefusedWhen, DoneWhen, RefusedKeeps, Writes}
 use Rattle.rules.specs.Promises.{SessionRefusedWhen, SessionRefusedKeeps, SessionAnswers, SlotAsTold, OneKeyForAKeyUid, CountAsTold, NeverUnsound}
-use Rattle.rules.specs.Promises.{SameIdentityOrNever, LoadFindsNothing, PoolTooSmallWhen, SoundKept, HeldUntilPowerCycle, ControllerResetKeeps}
-use Rattle.rules.specs.Promises.{PowerCycleLocks}
+use Rattle.rules.specs.Promises.{SameKeyUidOrNever, LoadFindsNothing, PoolTooSmallWhen, SoundKept, HeldUntilPowerCycle, ControllerResetKeeps}
+use Rattle.rules.specs.Promises.{PowerCycleLocks, MarkTellsKeyUid}
 use Rattle.rules.proofs.ChecksLaws.{judged-append, judged-pass, judged-cases, judged-map, by-verdict}
 use Rattle.rules.proofs.StateLaws as state
 use Rattle.rules.proofs.StateLaws.{done, accepted-not, is-namespace}
 use Rattle.rules.proofs.SlotsLaws.{held-bytes}
 use Rattle.rules.proofs.EffectsLaws.{named-slot}
-use Rattle.rules.proofs.MarksLaws.{agrees, never-differs, same-differs, never-then, right-key-then, then-right-key}
+use Rattle.rules.proofs.MarksLaws.{agrees, never-differs, same-differs, never-then, mark-then, same-held, held-same}
+use Rattle.rules.proofs.MarksLaws.{right-key-then, then-right-key}
 use Rattle.rules.proofs.TakenLaws.{refused-or-taken, read-as, accepts-line, sound-step}
 use Rattle.rules.proofs.CallLaws.{callRule, outcome, call-obeys, call-unread, call-read, judgedOnce, session-judged, session-unread, session-ran}
 use Rattle.rules.proofs.PoolLaws.{pool-too-small}
@@ -274,6 +275,9 @@ power-cycle-locks s line r = rw (read-as s line (reset 1) r) (refl, refl)
 -- ------------------------------------------------------------------------
 -- The mark check
 
+pub mark-tells-key-uid : MarkTellsKeyUid
+mark-tells-key-uid x y p q = (mark-then (x .uid) (y .uid) (p .short) (q .short), λ e. ap keptIdentity e)
+
 -- checks of a case that holds, and of one within it: the last list decides
 last-part : {A B : Type 0} (xs ys zs : List (Check A)) (m r : Bool) (f : A → B) (o : B) → m ≡ true → r ≡ true → AllPass xs → AllPass ys
     → judged (xs ++ onlyIf m (ys ++ onlyIf r zs)) f o ≡ judged zs f o
@@ -314,22 +318,26 @@ module _ (s : State) (h : List Event) (k : Kept s h) (c : Command) (is : IsNames
   key-is : now ≡ identityOf (holds (c .ns) (c .tag) h)
   key-is = ap identityOf (named-key s h k c is p)
 
-  agrees-then : differs now (mark s (c .ns) block) ≡ false → (last ≡ nothing) ⊎ (identityOf last ≡ identityOf (holds (c .ns) (c .tag) h))
+  abbrev key : Held
+  key = holds (c .ns) (c .tag) h
+
+  agrees-then : differs now (mark s (c .ns) block) ≡ false → (last ≡ nothing) ⊎ (uidHeld last ≡ uidHeld key)
   agrees-then e =
       ⊎-elim
       (λ z. inl (never-then last (k .written (c .ns) block) (ap (λ x. getD x 0 0) (sym mark-is) ∙ z)))
-      (λ q. inr (sym mark-is ∙ q ∙ key-is))
+      (λ q. inr (same-held last key (k .written (c .ns) block) (k .fit (c .ns) (c .tag)) (sym mark-is ∙ q ∙ key-is)))
       (agrees now (mark s (c .ns) block) e)
 
-  then-agrees : (last ≡ nothing) ⊎ (identityOf last ≡ identityOf (holds (c .ns) (c .tag) h)) → differs now (mark s (c .ns) block) ≡ false
+  then-agrees : (last ≡ nothing) ⊎ (uidHeld last ≡ uidHeld key) → differs now (mark s (c .ns) block) ≡ false
   then-agrees d =
       ⊎-elim
       (λ z. ap (differs now) (mark-is ∙ ap identityOf z) ∙ never-differs now)
-      (λ q. same-differs now (mark s (c .ns) block) (mark-is ∙ q ∙ sym key-is))
+      (λ q. same-differs now (mark s (c .ns) block)
+      (mark-is ∙ held-same last key (k .written (c .ns) block) (k .fit (c .ns) (c .tag)) q ∙ sym key-is))
       d
 
-pub same-identity-or-never : SameIdentityOrNever Steps
-same-identity-or-never h s line answer (led, is-answer) c reach =
+pub same-key-uid-or-never : SameKeyUidOrNever Steps
+same-key-uid-or-never h s line answer (led, is-answer) c reach =
     let k = kept h s led in
     let m = reach .1 .1 .0 in
     let opens = reach .1 .1 .1 .0 in

@@ -2,7 +2,7 @@
 -- Assumes nothing.
 use mathlib.Core.Path.{_≡_, refl, sym, ap, _∙_}
 use mathlib.Core.Bool.{Bool, true, false, not, _&&_, true≢false}
-use mathlib.Core.List.{List, append-assoc}
+use mathlib.Core.List.{List, _++_, append-assoc}
 use Prim.Native.Nat.{ℕ, _+_, _-_, _*_, _/_, _%_, _≤_, _<_}
 use native.Mathlib.Omega.{arith}
 use lib.ListN.{length, take, length-append}
@@ -43,6 +43,15 @@ tag-back ns tag is = let e : ((ns .0 - 1) * tagsMost + tag .0) % tagsMost ≡ ta
 pub length-padded : (n : ℕ) (xs : List ℕ) → length xs ≤ n → length (padded n xs) ≡ n
 unfolding padded
 length-padded n xs h = simp (length-append, length-zeros) (omega arith)
+
+-- padding hides nothing of bytes of one length
+pub padded-eq : (n : ℕ) (a b : List ℕ) → length a ≡ length b → padded n a ≡ padded n b → a ≡ b
+unfolding padded
+padded-eq n a b l e =
+    sym (take-at a (zeros (n - length a)) (length a) refl)
+    ∙ ap (take (length a)) e
+    ∙ ap (λ k. take k (b ++ zeros (n - length b))) l
+    ∙ take-at b (zeros (n - length b)) (length b) refl
 
 module _ (x : Contents) (fit : FitKey x) where
   uid-short : length (x .uid) ≤ uidMost

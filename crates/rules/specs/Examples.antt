@@ -1,6 +1,7 @@
 -- "Bench examples": P1 to P10 and the paper's session as one table, lines and
--- answers in the paper's own digits, and D1 for discovery. Each row starts from
--- a fresh drive and each line is a whole call with just the room that it asks.
+-- answers in the paper's own digits; D1 for discovery, M1 for whole KeyUIDs. Each
+-- row starts from a fresh drive and each line is a whole call with just the room
+-- that it asks.
 -- Assumes nothing.
 use mathlib.Core.Path.{_≡_}
 use mathlib.Core.Bool.{Bool, true, _&&_}
@@ -108,6 +109,11 @@ table =
     -- D1: discovery, the response in its three parts; a byte more gets 07 03; on a drive in use it says the same
     ∷ ("0C" answers discoveryAnswer ∷ "0C00" answers "0703"
     ∷ "010101" answers "0000" ∷ "0301000001AA" ⁀ K answers "0000" ∷ "0C" answers discoveryAnswer ∷ [])
+    -- M1: two KeyUIDs of nine bytes that differ in the last alone: what was written under one is not read under the other
+    ∷ ("010102" answers "0000" ∷ "0301000009AAAAAAAAAAAAAAAA01" ⁀ K answers "0000" ∷ "0301010009AAAAAAAAAAAAAAAA02" ⁀ L answers "0000"
+    ∷ command "01" "01000000" "0700000000000000" "0000" "0000" answers "0000"
+    ∷ command "02" "01000000" "0700000000000000" "0000" "0000" answers "0000"
+    ∷ command "02" "01000000" "0700000000000000" "0000" "0100" answers "0028" ∷ [])
     -- the session that the paper gives whole
     ∷ ("010102" answers "0000" ∷ "0301000001AA" ⁀ K answers "0000" ∷ "05010100" answers "070A"
     ∷ "09" answers "000012000000" ∷ "0B01" answers "0000" ∷ "05010000" answers "070A" ∷ [])

@@ -28,12 +28,9 @@ keySize = 32
 abbrev pub slotWidth : ℕ
 slotWidth = 1 + uidMost + keySize
 
--- a mark: the KeyUID's length, then its first 8 bytes, padded with zeros
-abbrev pub identityMost : ℕ
-identityMost = 8
-
+-- a mark: the KeyUID's length, then the KeyUID, padded with zeros
 abbrev pub markWidth : ℕ
-markWidth = 1 + identityMost
+markWidth = 1 + uidMost
 
 -- a place for each tag that a namespace may hold, though the pool never fills them all
 abbrev pub slotPlaces : ℕ

@@ -23,8 +23,8 @@ use Rattle.rules.specs.Answers.{00·01, 00·02, 00·0B, 00·25, 00·28, 
 use Rattle.rules.specs.Answers.{07·02, 07·03, 07·04, 07·05, 07·06, 07·07, 07·08}
 use Rattle.rules.specs.Answers.{07·09, 07·0A, 07·0B, 07·0C, 07·0D, 07·0E, 07·0F, 07·16}
 use Rattle.rules.specs.State.{State, Outcome, Sized, IsNamespace, count, managed}
-use Rattle.rules.specs.Slots.{IsSlot, Contents, slot, nothing, holding, held}
-use Rattle.rules.specs.Marks.{identityOf}
+use Rattle.rules.specs.Slots.{IsSlot, Contents, FitKey, slot, nothing, holding, held, uidHeld}
+use Rattle.rules.specs.Marks.{keptIdentity}
 use Rattle.rules.specs.Sound.{unsound}
 use Rattle.rules.specs.Locks.{partition, bothLocked}
 use Rattle.rules.specs.Frames.{manage, load, io, reset}
@@ -263,15 +263,15 @@ ReachesMarkCheck s line c =
 
 module _ (Answers : OfAnswers) where
   -- A read, compare or verify that reaches the mark check passes exactly when every covered block was last written (since its namespace was
-  -- last managed) under the same kept identity, or never.
-  abbrev pub SameIdentityOrNever : Type 0
-  SameIdentityOrNever =
+  -- last managed) under the same KeyUID, or never.
+  abbrev pub SameKeyUidOrNever : Type 0
+  SameKeyUidOrNever =
       (h : List Event) (s : State) (line : List ℕ) (answer : Answer) → Answers h s line answer
       → (c : Command) → ReachesMarkCheck s line c
       → (answer ≡ Done)
       ↔ ((block : ℕ) → covers c block ≡ true
       → (lastWritten (c .ns) block h ≡ nothing)
-      ⊎ (identityOf (lastWritten (c .ns) block h) ≡ identityOf (holds (c .ns) (c .tag) h)))
+      ⊎ (uidHeld (lastWritten (c .ns) block h) ≡ uidHeld (holds (c .ns) (c .tag) h)))
 
   -- A load never takes the place of a key: the day two keys met cannot come again.
   abbrev pub LoadFindsNothing : Type 0
@@ -288,6 +288,12 @@ module _ (Answers : OfAnswers) where
       → (ns : Namespace) (tags : ℕ) → Reads line (manage ns tags)
       → (answer ≡ Refused 07·08)
       ↔ (IsNamespace ns × ((tagCount ns h ≡ 0) × ((1 ≤ tags) × ((tags ≤ tagsMost) × (poolSlots < tagCounts namespaces h + tags)))))
+
+-- ------------------------------------------------------------------------
+-- Marks: nothing of a KeyUID is cut, so that equal marks are equal KeyUIDs
+
+abbrev pub MarkTellsKeyUid : Type 0
+MarkTellsKeyUid = (x y : Contents) → FitKey x → FitKey y → (keptIdentity (x .uid) ≡ keptIdentity (y .uid)) ↔ (x .uid ≡ y .uid)
 
 -- ------------------------------------------------------------------------
 -- One line, from any state

@@ -2,7 +2,7 @@
 -- search for an equal KeyUID with another key.
 -- Assumes nothing.
 use mathlib.Core.Bool.{Bool, not, _&&_, cond}
-use mathlib.Core.List.{List, _∷_, _++_}
+use mathlib.Core.List.{List, [], _∷_, _++_}
 use mathlib.Core.Path.{_≡_}
 use Prim.Native.Nat.{ℕ, _≤_, _<_, _+_, _-_, _*_, _/_, _%_}
 use lib.ListN.{length, getD}
@@ -79,6 +79,11 @@ keyOf c = part (1 + uidMost) keySize c
 pub data Held : Type 0 where
   nothing : Held
   holding : Contents → Held
+
+-- the KeyUID that is held; no bytes, which no KeyUID is, where nothing is held
+abbrev pub uidHeld : Held → List ℕ
+uidHeld nothing = []
+uidHeld (holding x) = x .uid
 
 abbrev pub contentsOf : List ℕ → Contents
 contentsOf c = record { uid = uidOf c; key = keyOf c }

@@ -1,5 +1,5 @@
 -- "A fresh drive: nothing managed, no keys, both boot partitions Write Locked.
--- Starting one needs a store of exactly 9,216 bytes and zeroes it; any other
+-- Starting one needs a store of exactly 17,408 bytes and zeroes it; any other
 -- store gives 07 0D, stays untouched, and the state handed back is the fresh one."
 -- A cache of another length stays too, and gives 07 0E where the store is right (house).
 -- Assumes nothing.

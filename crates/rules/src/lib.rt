@@ -15,9 +15,7 @@ pub const KEY_SIZE: usize = 32;
 
 pub const SLOT_WIDTH: usize = 1 + UID_MOST + KEY_SIZE;
 
-pub const IDENTITY_MOST: usize = 8;
-
-pub const MARK_WIDTH: usize = 1 + IDENTITY_MOST;
+pub const MARK_WIDTH: usize = 1 + UID_MOST;
 
 pub const SLOT_PLACES: usize = NAMESPACES * TAGS_MOST;
 

@@ -18,6 +18,7 @@ use Rattle.cells.proofs.PredicatesLaws.{same-refl, same-eq, allZero-eq, true-or
 use Rattle.rules.specs.Numbers.{uidMost, slotWidth}
 use Rattle.rules.specs.Slots.{Contents, padded, uidLength, empty, uidOf, keyOf, otherKeyIn}
 use Rattle.rules.specs.Sound.{afterUid, slotUnsound}
+use Rattle.rules.proofs.SlotsLaws.{padded-eq}
 use Rattle.rules.proofs.SoundLaws.{long-is, rest-is}
 use Rattle.slots.specs.Cache.{headSize, headOf, headBytes, otherKeyBehind}
 
@@ -25,11 +26,11 @@ use Rattle.slots.specs.Cache.{headSize, headOf, headBytes, otherKeyBehin
 -- Equal heads
 
 head-eq : (a b : List ℕ) → headBytes a ≡ headBytes b → a ≡ b
-unfolding headBytes padded
+unfolding headBytes
 head-eq a b e =
     let n : length a ≡ length b = cc in
-    let p : a ++ zeros (uidMost - length a) ≡ b ++ zeros (uidMost - length b) = cc in
-    sym (take-at a _ (length a) refl) ∙ ap (take (length a)) p ∙ ap (λ k. take k (b ++ zeros (uidMost - length b))) n ∙ take-at b _ (length b) refl
+    let p : padded uidMost a ≡ padded uidMost b = cc in
+    padded-eq uidMost a b n p
 
 agree : (a b : Bool) → (a ≡ true → b ≡ true) → (b ≡ true → a ≡ true) → a ≡ b
 agree true b f g = sym (f refl)

@@ -1,5 +1,5 @@
--- `found_numbers` meets its contract: the fields in their order. Each is read off the struct whose ranges are known, field i at its i-th place;
--- the search does not look so far.
+-- `found_numbers` meets its contract: the fields in their order. Past the ninth the search does not look so far by itself, and is told where
+-- the struct's ranges stand.
 -- Assumes nothing.
 use borrow.Author.Needs.{needs}
 use native.Mathlib.Omega.{arith}
@@ -17,22 +17,10 @@ found-numbers-spec =
     tie.close
     (tie.spec
     (λ c. search needs) (λ c. search needs) (λ c. search needs) (λ c. search needs) (λ c. search needs) (λ c. search needs) (λ c. search needs)
-    (λ c. search needs) (λ c. search needs) (λ c. omega (arith, c .struct-known10 .given .1 .1 .1 .1 .1 .1 .1 .1 .1 .0))
-    (λ c. omega (arith, c .struct-known11 .given .1 .1 .1 .1 .1 .1 .1 .1 .1 .1 .0))
-    (λ c. omega (arith, c .struct-known12 .given .1 .1 .1 .1 .1 .1 .1 .1 .1 .1 .1 .0))
-    (λ c. omega (arith, c .struct-known13 .given .1 .1 .1 .1 .1 .1 .1 .1 .1 .1 .1 .1 .0))
-    (λ c. omega (arith, c .struct-known14 .given .1 .1 .1 .1 .1 .1 .1 .1 .1 .1 .1 .1 .1 .0))
-    (λ c. omega (arith, c .struct-known15 .given .1 .1 .1 .1 .1 .1 .1 .1 .1 .1 .1 .1 .1 .1 .0))
-    (λ c. omega (arith, c .struct-known16 .given .1 .1 .1 .1 .1 .1 .1 .1 .1 .1 .1 .1 .1 .1 .1 .0))
-    (λ c. omega (arith, c .struct-known17 .given .1 .1 .1 .1 .1 .1 .1 .1 .1 .1 .1 .1 .1 .1 .1 .1 .0))
-    (λ c. omega (arith, c .struct-known18 .given .1 .1 .1 .1 .1 .1 .1 .1 .1 .1 .1 .1 .1 .1 .1 .1 .1 .0))
-    (λ c. omega (arith, c .struct-known19 .given .1 .1 .1 .1 .1 .1 .1 .1 .1 .1 .1 .1 .1 .1 .1 .1 .1 .1 .0))
-    (λ c. omega (arith, c .struct-known20 .given .1 .1 .1 .1 .1 .1 .1 .1 .1 .1 .1 .1 .1 .1 .1 .1 .1 .1 .1 .0))
-    (λ c. omega (arith, c .struct-known21 .given .1 .1 .1 .1 .1 .1 .1 .1 .1 .1 .1 .1 .1 .1 .1 .1 .1 .1 .1 .1 .0))
-    (λ c. omega (arith, c .struct-known22 .given .1 .1 .1 .1 .1 .1 .1 .1 .1 .1 .1 .1 .1 .1 .1 .1 .1 .1 .1 .1 .1 .0))
-    (λ c. omega (arith, c .struct-known23 .given .1 .1 .1 .1 .1 .1 .1 .1 .1 .1 .1 .1 .1 .1 .1 .1 .1 .1 .1 .1 .1 .1 .0))
-    (λ c. omega (arith, c .struct-known24 .given .1 .1 .1 .1 .1 .1 .1 .1 .1 .1 .1 .1 .1 .1 .1 .1 .1 .1 .1 .1 .1 .1 .1 .0))
-    (λ c. omega (arith, c .struct-known25 .given .1 .1 .1 .1 .1 .1 .1 .1 .1 .1 .1 .1 .1 .1 .1 .1 .1 .1 .1 .1 .1 .1 .1 .1 .0))
-    (λ c. omega (arith, c .struct-known26 .given .1 .1 .1 .1 .1 .1 .1 .1 .1 .1 .1 .1 .1 .1 .1 .1 .1 .1 .1 .1 .1 .1 .1 .1 .1 .0))
-    (λ c. omega (arith, c .struct-known27 .given .1 .1 .1 .1 .1 .1 .1 .1 .1 .1 .1 .1 .1 .1 .1 .1 .1 .1 .1 .1 .1 .1 .1 .1 .1 .1 .1 .1 .0))
-    (λ c. omega (arith, c .struct-known28 .given .1 .1 .1 .1 .1 .1 .1 .1 .1 .1 .1 .1 .1 .1 .1 .1 .1 .1 .1 .1 .1 .1 .1 .1 .1 .1 .1 .1 .1 .0)) returns)
+    (λ c. search needs) (λ c. search needs) (λ c. omega (arith, c .struct-known10 .given)) (λ c. omega (arith, c .struct-known11 .given))
+    (λ c. omega (arith, c .struct-known12 .given)) (λ c. omega (arith, c .struct-known13 .given)) (λ c. omega (arith, c .struct-known14 .given))
+    (λ c. omega (arith, c .struct-known15 .given)) (λ c. omega (arith, c .struct-known16 .given)) (λ c. omega (arith, c .struct-known17 .given))
+    (λ c. omega (arith, c .struct-known18 .given)) (λ c. omega (arith, c .struct-known19 .given)) (λ c. omega (arith, c .struct-known20 .given))
+    (λ c. omega (arith, c .struct-known21 .given)) (λ c. omega (arith, c .struct-known22 .given)) (λ c. omega (arith, c .struct-known23 .given))
+    (λ c. omega (arith, c .struct-known24 .given)) (λ c. omega (arith, c .struct-known25 .given)) (λ c. omega (arith, c .struct-known26 .given))
+    (λ c. omega (arith, c .struct-known27 .given)) (λ c. omega (arith, c .struct-known28 .given)) returns)
