@@ -269,18 +269,17 @@ static void check_cleared_slots(void)
     }
 }
 
+/* A mark is what the slot begins with: the KeyUID's length and all of it, padded. */
 static void check_mark(int ns, int block, const uint8_t slot[49])
 {
-    uint8_t mark[9] = {slot[0]};
     uint8_t frame[65] = {0x07, 0x01};
     frame[5] = ns;
     frame[41] = block;
     frame[51] = 1;
     frame[53] = slot[0] - 1;
-    memcpy(mark + 1, slot + 1, 8);
     await_as_now();
     uint16_t answer = ask_frame(frame, sizeof frame);
-    lay(awaited_marks, TUFFALEEN_MARK_AT(ns, block), mark, sizeof mark);
+    lay(awaited_marks, TUFFALEEN_MARK_AT(ns, block), slot, 17);
     CHECK(answer == TUFFALEEN_DONE && as_awaited(), "the mark of namespace %d, block %d: %04X", ns, block, answer);
 }
 
@@ -299,7 +298,7 @@ static int check_marks(void)
         }
     }
     CHECK(TUFFALEEN_MARK_AT(5, 0) == TUFFALEEN_MARKS_BYTES, "the store does not end with its last mark");
-    CHECK(TUFFALEEN_MARK_BYTES == 9, "a mark has %d bytes", TUFFALEEN_MARK_BYTES);
+    CHECK(TUFFALEEN_MARK_BYTES == 17, "a mark has %d bytes", TUFFALEEN_MARK_BYTES);
     return seen;
 }
 
@@ -657,10 +656,10 @@ static int check_no_responses(void)
 /* Whoever changes the layout comes by here, and counts the version up. */
 static void check_version(void)
 {
-    int as_in_1 = TUFFALEEN_IMAGE_BYTES == 6278 && TUFFALEEN_COUNTS_AT == 0 && TUFFALEEN_LOCKS_AT == 4 &&
-                  TUFFALEEN_SLOTS_AT == 6 && TUFFALEEN_SLOT_BYTES == 49 && TUFFALEEN_MARKS_BYTES == 9216 &&
-                  TUFFALEEN_MARK_BYTES == 9;
-    CHECK(as_in_1 == (TUFFALEEN_LAYOUT_VERSION == 1), "layout version %d", TUFFALEEN_LAYOUT_VERSION);
+    int as_in_2 = TUFFALEEN_IMAGE_BYTES == 6278 && TUFFALEEN_COUNTS_AT == 0 && TUFFALEEN_LOCKS_AT == 4 &&
+                  TUFFALEEN_SLOTS_AT == 6 && TUFFALEEN_SLOT_BYTES == 49 && TUFFALEEN_MARKS_BYTES == 17408 &&
+                  TUFFALEEN_MARK_BYTES == 17;
+    CHECK(as_in_2 == (TUFFALEEN_LAYOUT_VERSION == 2), "layout version %d", TUFFALEEN_LAYOUT_VERSION);
 }
 
 int main(void)

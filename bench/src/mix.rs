@@ -1,4 +1,4 @@
-//! Frames of mixed kinds as a host could send them, most of them accepted.
+//! Frames of mixed kinds as a host could send them, about half of them accepted.
 
 use std::collections::BTreeMap;
 
@@ -115,13 +115,13 @@ impl Mix {
         None
     }
 
-    /// One of 256 KeyUIDs of 16 bytes, which have 4 kept identities, and its one key, or rarely
-    /// another.
+    /// One of 256 KeyUIDs of 16 bytes, which differ in the last and some in the eighth, and its one
+    /// key, or rarely another.
     fn material(&mut self) -> (String, u8) {
         let number = self.rng.byte();
         let key = if self.rng.once_in(64) { !number } else { number };
-        let kept = number % 4;
-        (format!("{}{kept:02X}{}{number:02X}", "5A".repeat(7), "A5".repeat(7)), key)
+        let eighth = number % 4;
+        (format!("{}{eighth:02X}{}{number:02X}", "5A".repeat(7), "A5".repeat(7)), key)
     }
 
     fn load(&mut self, namespace: u8, tag: u16) -> String {

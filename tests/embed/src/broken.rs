@@ -2,10 +2,10 @@
 //! difference, else the comparison is blind.
 
 use model::discovery::read;
-use model::numbers::ROOM;
+use model::numbers::{MARK, NAMESPACES, ROOM, SLOT};
 use model::status;
 
-use crate::arena::{Arena, Lengths};
+use crate::arena::{Arena, Lengths, Lent};
 use crate::oracle::{Function, Outcome};
 use crate::places::PLACES;
 use crate::responses::*;
@@ -22,6 +22,8 @@ pub enum Rule {
     Guard,
     /// The line 0C needs no more room than another.
     Room,
+    /// A mark keeps the first eight bytes of a KeyUID, as 01 had it.
+    FirstEight,
     /// Of two features the last counts.
     First,
     /// A short feature is read, as if zeros followed.
@@ -43,6 +45,7 @@ impl Rule {
             "output" => Rule::Output,
             "guard" => Rule::Guard,
             "room" => Rule::Room,
+            "first-eight" => Rule::FirstEight,
             "first" => Rule::First,
             "short" => Rule::Short,
             "fields" => Rule::Fields,
@@ -75,6 +78,9 @@ impl Rule {
             Rule::Output if met(status::BLOCK_RANGE) => arena.lend(lengths).out[12] ^= 1,
             Rule::Guard if met(status::OUTPUT) => arena.lend(&wider).out[lengths.out] ^= 1,
             Rule::Room if met(status::OUTPUT) && cramped => outcome.number = status::DONE,
+            Rule::FirstEight if met(status::WRONG_KEY) => {
+                outcome.number = first_eight(arena.lend(lengths));
+            }
             _ => {}
         }
     }
@@ -103,6 +109,18 @@ impl Rule {
             _ => {}
         }
     }
+}
+
+/// The answer to a line when slots and marks have no more than eight bytes of each KeyUID.
+fn first_eight(lent: Lent) -> u16 {
+    let [mut image, mut marks, mut out] =
+        [&*lent.image, &*lent.marks, &*lent.out].map(<[u8]>::to_vec);
+    let slots = image[NAMESPACES + 2..].chunks_exact_mut(SLOT);
+    for kept in slots.chain(marks.chunks_exact_mut(MARK)) {
+        kept[1 + 8..MARK].fill(0);
+    }
+    let cut = Lent { image: &mut image, marks: &mut marks, text: lent.text, out: &mut out };
+    Function::Line.by_model(cut).number
 }
 
 fn pad(feature: &mut Vec<u8>) {

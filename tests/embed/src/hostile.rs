@@ -114,9 +114,12 @@ fn random_mark(rng: &mut Rng, mark: &mut [u8]) {
         1 => rng.fill(&mut mark[1..]),
         2..=7 => {
             let uid = key_uid(rng);
-            let kept = uid.len().min(MARK - 1);
             mark[0] = uid.len() as u8;
-            mark[1..=kept].copy_from_slice(&uid[..kept]);
+            mark[1..=uid.len()].copy_from_slice(uid);
+            // Nearly a KeyUID: another length or byte, or something behind it.
+            if rng.once_in(4) {
+                mark[rng.below(MARK)] ^= 1;
+            }
         }
         _ => {}
     }

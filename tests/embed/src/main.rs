@@ -31,8 +31,8 @@ use tally::Tally;
 use walk::{LineWalk, TextWalk};
 
 const USAGE: &str = "usage: embed CALLS SEED [--broken RULE]
-RULE: number, written, lines, image, marks, text, output, guard, room, first, short, fields,
-behind, data";
+RULE: number, written, lines, image, marks, text, output, guard, room, first-eight, first, short,
+fields, behind, data";
 
 /// With fewer calls a number that is not met says nothing.
 const ENOUGH: u64 = 200_000;

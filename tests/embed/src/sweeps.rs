@@ -1,10 +1,10 @@
 //! What can be gone through from end to end: every length near a right one, every output length,
-//! every value of the bytes that an image begins with, every byte of an image, and every value of
-//! every byte of a frame.
+//! every value of the bytes that an image begins with, every byte of an image, every value of every
+//! byte of a mark, and every value of every byte of a frame.
 
 use embed::Rng;
 use model::lines::*;
-use model::numbers::{DISCOVERY_ROOM, IMAGE, NAMESPACES, ROOM, STORE};
+use model::numbers::{BLOCKS, DISCOVERY_ROOM, IMAGE, MARK, NAMESPACES, ROOM, STORE};
 use model::{room, session_room, status, Drive};
 
 use crate::arena::Lengths;
@@ -14,6 +14,8 @@ use crate::oracle::Function;
 use crate::pair::{Difference, Pair, State};
 
 const NEAR: usize = 64;
+/// The store of layout version 1, whose marks had 9 bytes.
+const OLD_STORE: usize = 9216;
 
 /// What is given every output: lines of both rooms, with and without a last line feed.
 const TEXTS: [&str; 10] = [
@@ -50,6 +52,7 @@ impl Sweeps {
         self.lengths()?;
         self.outputs()?;
         self.first_bytes()?;
+        self.marks()?;
         self.frames()?;
         self.digits()
     }
@@ -69,7 +72,7 @@ impl Sweeps {
 
     fn starts(&mut self) -> Done {
         for image in [0, 1, IMAGE - 1, IMAGE, IMAGE + 1, 2 * IMAGE] {
-            for marks in near(STORE) {
+            for marks in stores() {
                 self.pair.change(|image, marks| {
                     image.fill(0xEE);
                     marks.fill(0xEE);
@@ -84,8 +87,8 @@ impl Sweeps {
     fn lengths(&mut self) -> Done {
         self.pair.restore(&self.used);
         let image = near(IMAGE).map(|image| (image, STORE));
-        let marks = near(STORE).map(|marks| (IMAGE, marks));
-        let both = near(STORE).map(|marks| (IMAGE + 1, marks));
+        let marks = stores().map(|marks| (IMAGE, marks));
+        let both = stores().map(|marks| (IMAGE + 1, marks));
         for (image, marks) in image.chain(marks).chain(both) {
             for (line, text) in [("0B01", "0B01\n0B01"), ("0C", "0C\n0C")] {
                 self.pair.say(text.as_bytes());
@@ -128,6 +131,23 @@ impl Sweeps {
                 say(&mut self.pair, "09", ROOM)?;
                 say(&mut self.pair, "0C", DISCOVERY_ROOM)?;
                 self.pair.change(|image, _| image[at] = old);
+            }
+        }
+        Ok(())
+    }
+
+    /// Every value of every byte of the first and the last mark of a namespace, read with both keys.
+    fn marks(&mut self) -> Done {
+        self.pair.restore(&self.used);
+        for block in [0, BLOCKS - 1] {
+            for at in block * MARK..(block + 1) * MARK {
+                for value in 0..=255 {
+                    self.pair.change(|_, marks| marks[at] = value);
+                    for tag in 0..2 {
+                        say(&mut self.pair, read(1, tag, block as u64, 0), ROOM)?;
+                    }
+                }
+                self.pair.change(|_, marks| marks[at] = self.used.marks[at]);
             }
         }
         Ok(())
@@ -176,7 +196,12 @@ fn near(right: usize) -> impl Iterator<Item = usize> {
     (0..NEAR).chain(right - NEAR..=right + NEAR).chain([2 * right])
 }
 
-/// Namespaces 1 and 2 in use, every block of the first written, two KeyUIDs of one kept identity.
+fn stores() -> impl Iterator<Item = usize> {
+    near(STORE).chain([OLD_STORE])
+}
+
+/// Namespaces 1 and 2 in use, every block of the first written; two KeyUIDs of namespace 1 have the
+/// same first eight bytes and the same length.
 fn used() -> State {
     let mut marks = vec![0; STORE];
     let (_, mut drive) = Drive::start(&mut marks);
@@ -204,7 +229,7 @@ fn frames() -> [String; 12] {
         replace(1, 0, "A0A1A2A3A4A5A6A7A8", "AA", 0x33),
         clear_one(1, 0),
         clear_all(2),
-        read(1, 1, 200, 55),
+        read(1, 0, 200, 55),
         set_features(0x0B),
         get_features(),
         boot_write(0),

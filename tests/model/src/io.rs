@@ -28,13 +28,12 @@ impl Drive {
         if self.keys[at] == 0 {
             return Err(status::TAG);
         }
-        // Length, then the first 8 bytes: a slot begins with its kept identity.
-        let identity: [u8; MARK] = field(&self.keys, at);
+        let key_uid: [u8; MARK] = field(&self.keys, at);
         let first = index * BLOCKS;
         let covered = &mut marks[(first + blocks.start) * MARK..(first + blocks.end) * MARK];
         if is_write {
-            covered.chunks_exact_mut(MARK).for_each(|mark| mark.copy_from_slice(&identity));
-        } else if covered.chunks_exact(MARK).any(|mark| mark[0] != 0 && mark != identity) {
+            covered.chunks_exact_mut(MARK).for_each(|mark| mark.copy_from_slice(&key_uid));
+        } else if covered.chunks_exact(MARK).any(|mark| mark[0] != 0 && mark != key_uid) {
             return Err(status::WRONG_KEY);
         }
         Ok(())

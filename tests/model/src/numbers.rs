@@ -7,12 +7,12 @@ pub const TAGS: usize = 32;
 
 pub const KEY_UID: usize = 16;
 pub const KEY: usize = 32;
-/// A slot's KeyUID length and its KeyUID padded with zeros.
+/// A KeyUID as it is kept, in a slot and in a mark: its length, then itself padded with zeros.
 pub const HEAD: usize = 1 + KEY_UID;
 pub const SLOT: usize = HEAD + KEY;
 pub const KEYS: usize = NAMESPACES * TAGS * SLOT;
 
-pub const MARK: usize = 9;
+pub const MARK: usize = HEAD;
 pub const STORE: usize = NAMESPACES * BLOCKS * MARK;
 
 pub const UNLOCKED: u8 = 1;

@@ -8,6 +8,7 @@ use model::numbers::{BLOCKS, MARK, STORE};
 use model::Drive;
 
 const U9: &str = "A0A1A2A3A4A5A6A7A8";
+const U16: &str = "A0A1A2A3A4A5A6A7A8A9AAABACADAEAF";
 
 #[test]
 fn a_slot_holds_its_key_padded() {
@@ -34,8 +35,8 @@ fn a_write_marks_the_covered_blocks_only() {
     bench.accept(write(3, 0, 10, 1));
     let mut marks = [0; STORE];
     for block in [10, 11] {
-        let mark = [9, 0xA0, 0xA1, 0xA2, 0xA3, 0xA4, 0xA5, 0xA6, 0xA7];
-        marks[(2 * BLOCKS + block) * MARK..][..MARK].copy_from_slice(&mark);
+        let mark = &mut marks[(2 * 256 + block) * 17..][..17];
+        mark[..10].copy_from_slice(&[9, 0xA0, 0xA1, 0xA2, 0xA3, 0xA4, 0xA5, 0xA6, 0xA7, 0xA8]);
     }
     assert_eq!(bench.marks, marks);
 }
@@ -86,13 +87,57 @@ fn clearing_and_resets_keep_marks_and_counts() {
 }
 
 #[test]
-fn the_ninth_byte_is_not_kept() {
+fn a_mark_is_the_key_uid_padded() {
+    for length in 1..=16 {
+        let mut bench = Bench::new();
+        bench.accept(manage(4, 1));
+        bench.accept(load(4, 0, &U16[..2 * length], 0x11));
+        bench.accept(write(4, 0, 255, 0));
+        let mut mark = [0; 17];
+        mark[0] = length as u8;
+        (1..=length).for_each(|byte| mark[byte] = 0x9F + byte as u8);
+        assert_eq!(bench.marks.len(), 17_408);
+        assert_eq!(bench.marks[17_408 - 17..], mark);
+        assert_eq!(bench.marks[..17_408 - 17], [0; 17_408 - 17]);
+    }
+}
+
+/// A drive with block 0 of namespace 1 written under a KeyUID in tag 0.
+fn written_under(uid: &str) -> Bench {
     let mut bench = Bench::new();
-    bench.accept(manage(1, 3));
-    bench.accept(load(1, 0, U9, 0x11));
-    bench.accept(load(1, 1, "A0A1A2A3A4A5A6A7FF", 0x22));
-    bench.accept(load(1, 2, "A0A1A2A3A4A5A6A7", 0x33));
+    bench.accept(manage(1, 32));
+    bench.accept(load(1, 0, uid, 0x11));
     bench.accept(write(1, 0, 0, 0));
-    bench.accept(read(1, 1, 0, 0));
-    bench.refuse(read(1, 2, 0, 0), "0028");
+    bench.accept(read(1, 0, 0, 0));
+    bench
+}
+
+#[test]
+fn a_read_needs_every_byte_of_the_key_uid() {
+    for length in 1..=16 {
+        let uid = &U16[..2 * length];
+        let mut bench = written_under(uid);
+        for byte in 0..length {
+            let tag = 1 + byte as u16;
+            let other = format!("{}FF{}", &uid[..2 * byte], &uid[2 * byte + 2..]);
+            bench.accept(load(1, tag, &other, 0x22));
+            bench.refuse(read(1, tag, 0, 0), "0028");
+        }
+    }
+}
+
+#[test]
+fn a_read_needs_the_length_of_the_key_uid() {
+    for uid in [U16, &"00".repeat(16)] {
+        for length in 1..=16 {
+            let mut bench = written_under(&uid[..2 * length]);
+            for other in 1..=16 {
+                bench.accept(load(1, other as u16, &uid[..2 * other], 0x11));
+                match other == length {
+                    true => bench.accept(read(1, other as u16, 0, 0)),
+                    false => bench.refuse(read(1, other as u16, 0, 0), "0028"),
+                }
+            }
+        }
+    }
 }

@@ -4,7 +4,7 @@ mod bench;
 
 use bench::Bench;
 use model::lines::*;
-use model::numbers::{OUTPUT, SLOT, STORE, TAGS};
+use model::numbers::{OUTPUT, SLOT, TAGS};
 use model::Drive;
 
 /// Namespace 1 with tags 0 and 1, tag 0 loaded, block 7 written with it.
@@ -85,10 +85,21 @@ fn wrong_key_0028() {
 #[test]
 fn a_mark_of_length_0_is_never_written() {
     let mut bench = recorded();
-    bench.marks[1..9].fill(0xEE);
+    bench.marks[1..17].fill(0xEE);
     bench.accept(read(1, 0, 0, 0));
     bench.marks[0] = 0xEE;
     bench.refuse(read(1, 0, 0, 0), "0028");
+}
+
+#[test]
+fn a_mark_that_no_write_left_is_another() {
+    for byte in 0..17 {
+        let mut bench = recorded();
+        bench.marks.copy_within(7 * 17..8 * 17, 0);
+        bench.accept(read(1, 0, 0, 0));
+        bench.marks[byte] ^= 0x80;
+        bench.refuse(read(1, 0, 0, 0), "0028");
+    }
 }
 
 #[test]
@@ -220,7 +231,7 @@ fn refused_with(bench: &mut Bench, line: &str, room: usize) -> u16 {
 
 #[test]
 fn store_070d() {
-    for length in [0, 1, STORE - 1, STORE + 1, 2 * STORE] {
+    for length in [0, 1, 9_216, 17_407, 17_409, 2 * 17_408] {
         let mut bench = recorded();
         bench.marks = vec![0xEE; length];
         assert_eq!(refused_call(&mut bench, 13), 0x070D);

@@ -2,7 +2,9 @@
 //! of them would not notice that rule broken in the proved program.
 
 use model::lines::{clear_one, set_features};
-use model::numbers::{BLOCKS, DISCOVERY_ROOM, INPUT, KEYS, MARK, OUTPUT, ROOM, SLOT, STORE, TAGS};
+use model::numbers::{
+    BLOCKS, DISCOVERY_ROOM, HEAD, INPUT, KEYS, MARK, OUTPUT, ROOM, SLOT, STORE, TAGS,
+};
 use model::{room, status, Drive};
 
 #[derive(Clone, Copy, PartialEq, Eq)]
@@ -25,6 +27,12 @@ pub enum Rule {
     ReleaseMarks,
     /// A write is compared with old marks.
     WriteCheck,
+    /// A mark keeps the first eight bytes of a KeyUID, as 01 had it.
+    FirstEight,
+    /// A mark keeps all bytes of a KeyUID but the sixteenth.
+    FirstFifteen,
+    /// A mark keeps no length, so that padding hides zeros at a KeyUID's end.
+    NoLength,
     /// A power cycle leaves the keys.
     PowerCycle,
     /// A controller level reset locks the boot partitions.
@@ -41,7 +49,7 @@ pub enum Rule {
     DiscoveryLocks,
 }
 
-const NAMES: [(&str, Rule); 16] = [
+const NAMES: [(&str, Rule); 19] = [
     ("small-letters", Rule::SmallLetters),
     ("last-line", Rule::LastLine),
     ("input", Rule::Input),
@@ -51,6 +59,9 @@ const NAMES: [(&str, Rule); 16] = [
     ("clear-marks", Rule::ClearMarks),
     ("release-marks", Rule::ReleaseMarks),
     ("write-check", Rule::WriteCheck),
+    ("first-eight", Rule::FirstEight),
+    ("first-fifteen", Rule::FirstFifteen),
+    ("no-length", Rule::NoLength),
     ("power-cycle", Rule::PowerCycle),
     ("controller-reset", Rule::ControllerReset),
     ("partition", Rule::Partition),
@@ -79,6 +90,16 @@ impl Rule {
         }
         let mut bench = Bench { drive: Drive::fresh(), marks: [0; STORE] };
         lines.into_iter().flat_map(|line| bench.answer(self, line)).collect()
+    }
+
+    /// What stays of a KeyUID that is led by its length; an unsound state would be refused.
+    fn keep(self, uid: &mut [u8]) {
+        match self {
+            Rule::FirstEight => uid[1 + 8..].fill(0),
+            Rule::FirstFifteen => uid[1 + 15..].fill(0),
+            Rule::NoLength => uid[0] = 16 * uid[0].min(1),
+            _ => {}
+        }
     }
 
     fn room(self, line: &[u8]) -> usize {
@@ -128,6 +149,11 @@ impl Bench {
                 self.marks[namespace * BLOCKS * MARK..][..BLOCKS * MARK].fill(0);
             }
             (Rule::ReleaseMarks, b"02") => self.marks = marks,
+            (Rule::FirstEight | Rule::FirstFifteen | Rule::NoLength, _)
+                if number == status::WRONG_KEY =>
+            {
+                return self.kept_by(rule, line);
+            }
             (Rule::PowerCycle, b"0B") => self.drive.keys = keys,
             (Rule::ControllerReset, b"0B") if done => self.drive.locks = [2; 2],
             (Rule::Partition, b"08") if number == status::LOCK_FIXED => {
@@ -139,6 +165,17 @@ impl Bench {
             (Rule::DiscoveryLocks, b"0C") if done => self.drive.locks = [2; 2],
             _ => {}
         }
+        out
+    }
+
+    /// Answers a refused read again with no more of the KeyUIDs in slots and marks than the rule keeps.
+    fn kept_by(&mut self, rule: Rule, line: &[u8]) -> Vec<u8> {
+        let (keys, marks) = (self.drive.keys, self.marks);
+        let slots = self.drive.keys.chunks_exact_mut(SLOT);
+        let uids = slots.map(|slot| &mut slot[..HEAD]).chain(self.marks.chunks_exact_mut(MARK));
+        uids.for_each(|uid| rule.keep(uid));
+        let out = self.line(line).1;
+        (self.drive.keys, self.marks) = (keys, marks);
         out
     }
 

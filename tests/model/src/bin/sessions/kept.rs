@@ -72,9 +72,10 @@ pub const KEPT: [(&str, &[&str]); 11] = [
         "marks",
         &[
             "marks-hold-the-key-of-the-write",
-            "marks-identity-is-the-first-8-bytes",
+            "marks-keep-the-whole-key-uid",
             "marks-kept-over-power-cycle",
             "marks-range-edges",
+            "marks-whole-key-uid-kept-over-clear-and-power-cycle",
         ],
     ),
     (

@@ -1,8 +1,12 @@
 //! The marks: what sets them, what keeps them, what they are compared with.
 
+use std::ops::RangeInclusive;
+
 use model::lines::*;
 
 use crate::folder::{Folder, Lines};
+
+const A16: &str = "A0A1A2A3A4A5A6A7A8A9AAABACADAEAF";
 
 pub fn add(folder: &mut Folder) {
     range_edges(folder);
@@ -14,11 +18,11 @@ pub fn add(folder: &mut Folder) {
     refused_writes(folder);
     kept(folder);
     gone_after_release(folder);
-    kept_identity_length(folder);
-    kept_identity_first_8(folder);
-    kept_identity_of_16(folder);
-    identity_is_not_the_key(folder);
-    identity_of_the_time(folder);
+    whole_key_uid(folder);
+    key_uid_lengths(folder);
+    whole_key_uid_kept(folder);
+    key_is_not_compared(folder);
+    key_uid_of_the_time(folder);
     unmanaged_writes(folder);
     checkerboard(folder);
     first_and_last_covered(folder);
@@ -220,7 +224,7 @@ fn gone_after_release(folder: &mut Folder) {
 }
 
 /// Writes block 0 with the first KeyUID, then reads it with the second.
-fn identities(folder: &mut Folder, name: &str, pairs: &[(&str, &str, &'static str)]) {
+fn key_uids(folder: &mut Folder, name: &str, pairs: &[(&str, &str, &'static str)]) {
     let lines = pairs.iter().flat_map(|&(written, reading, answer)| {
         [
             (manage(1, 2), "0000"),
@@ -234,12 +238,65 @@ fn identities(folder: &mut Folder, name: &str, pairs: &[(&str, &str, &'static st
     folder.add(name, lines);
 }
 
-fn kept_identity_length(folder: &mut Folder) {
-    let eight = "A0A1A2A3A4A5A6A7";
-    let nine = "A0A1A2A3A4A5A6A7A8";
-    identities(
+/// A16 with another byte in one place, counted from 1.
+fn changed(byte: usize) -> String {
+    format!("{}FF{}", &A16[..2 * byte - 2], &A16[2 * byte..])
+}
+
+fn whole_key_uid(folder: &mut Folder) {
+    let (eight, nine, fifteen) = (&A16[..16], &A16[..18], &A16[..30]);
+    key_uids(
         folder,
-        "marks-identity-counts-the-length",
+        "marks-keep-the-whole-key-uid",
+        &[
+            (A16, A16, "0000"),
+            (A16, &changed(9), "0028"),
+            (A16, &changed(16), "0028"),
+            (A16, fifteen, "0028"),
+            (fifteen, A16, "0028"),
+            (A16, eight, "0028"),
+            (nine, &format!("{eight}FF"), "0028"),
+            (nine, nine, "0000"),
+        ],
+    );
+    key_uids(
+        folder,
+        "marks-key-uids-of-other-bytes",
+        &[
+            (&format!("{eight}00"), nine, "0028"),
+            (nine, &format!("{}FFA8", &A16[..14]), "0028"),
+            (nine, &format!("FF{}", &nine[2..]), "0028"),
+            (eight, &format!("{}FF", &A16[..14]), "0028"),
+            (&A16[..14], &format!("{}FF", &A16[..12]), "0028"),
+            ("A0A1", "A1A0", "0028"),
+            ("00", "01", "0028"),
+        ],
+    );
+    for bytes in [1..=8, 9..=16] {
+        every_byte(folder, bytes);
+    }
+}
+
+fn every_byte(folder: &mut Folder, bytes: RangeInclusive<usize>) {
+    let name = format!("marks-key-uid-other-in-each-byte-from-{}", bytes.start());
+    let setup = [
+        (manage(1, 17), "0000"),
+        (load(1, 0, A16, 0x11), "0000"),
+        (write(1, 0, 0, 0), "0000"),
+        (read(1, 0, 0, 0), "0000"),
+    ];
+    let others = bytes.flat_map(|byte| {
+        let tag = byte as u16;
+        [(load(1, tag, &changed(byte), 0x22), "0000"), (read(1, tag, 0, 0), "0028")]
+    });
+    folder.add(name, setup.into_iter().chain(others));
+}
+
+fn key_uid_lengths(folder: &mut Folder) {
+    let (eight, nine) = (&A16[..16], &A16[..18]);
+    key_uids(
+        folder,
+        "marks-key-uids-of-other-lengths",
         &[
             ("AA", "AA", "0000"),
             ("AA", "AA00", "0028"),
@@ -247,63 +304,75 @@ fn kept_identity_length(folder: &mut Folder) {
             (eight, eight, "0000"),
             (eight, nine, "0028"),
             (nine, eight, "0028"),
-            (nine, &format!("{nine}A9"), "0028"),
+            (nine, &A16[..20], "0028"),
             (&"00".repeat(15), &"00".repeat(16), "0028"),
         ],
     );
-}
-
-fn kept_identity_first_8(folder: &mut Folder) {
-    let nine = "A0A1A2A3A4A5A6A7A8";
-    identities(
+    key_uids(
         folder,
-        "marks-identity-is-the-first-8-bytes",
+        "marks-key-uids-padded-and-filled-with-zeros",
         &[
-            (nine, "A0A1A2A3A4A5A6A7FF", "0000"),
-            ("A0A1A2A3A4A5A6A700", nine, "0000"),
-            (nine, "A0A1A2A3A4A5A6FFA8", "0028"),
-            (nine, "FFA1A2A3A4A5A6A7A8", "0028"),
-            ("A0A1A2A3A4A5A6A7", "A0A1A2A3A4A5A6FF", "0028"),
-            ("A0A1A2A3A4A5A6", "A0A1A2A3A4A5FF", "0028"),
-            ("A0A1", "A1A0", "0028"),
-            ("00", "01", "0028"),
+            (eight, &format!("{eight}00"), "0028"),
+            (&format!("{eight}00"), eight, "0028"),
+            (A16, &format!("{eight}{}", "00".repeat(8)), "0028"),
+            (&format!("{eight}{}", "00".repeat(8)), eight, "0028"),
+            (&A16[..30], &format!("{}00", &A16[..30]), "0028"),
+            (&"00".repeat(16), &"00".repeat(16), "0000"),
+            (&"00".repeat(16), &format!("{}01", "00".repeat(15)), "0028"),
         ],
     );
 }
 
-fn kept_identity_of_16(folder: &mut Folder) {
-    let a = "A0A1A2A3A4A5A6A7A8A9AAABACADAEAF";
-    identities(
-        folder,
-        "marks-identity-of-16-bytes",
-        &[
-            (a, a, "0000"),
-            (a, &format!("{}{}", &a[..16], "FF".repeat(8)), "0000"),
-            (a, &format!("{}{}", &a[..16], "00".repeat(8)), "0000"),
-            (a, &format!("{}FF", &a[..30]), "0000"),
-            (a, &a[..30], "0028"),
-            (a, &format!("{}FF{}", &a[..14], &a[16..]), "0028"),
-            (a, &format!("FF{}", &a[2..]), "0028"),
-        ],
-    );
+/// Whatever empties the slot, the next key is held against the whole KeyUID of the write.
+fn whole_key_uid_kept(folder: &mut Folder) {
     folder.add(
-        "marks-ninth-byte-reads-as-the-same",
+        "marks-whole-key-uid-kept-over-clear-and-power-cycle",
         [
             (manage(1, 1), "0000"),
-            (load(1, 0, "A0A1A2A3A4A5A6A7A8", 0x11), "0000"),
+            (load(1, 0, A16, 0x11), "0000"),
+            (write(1, 0, 0, 0), "0000"),
+            (clear_one(1, 0), "0000"),
+            (load(1, 0, &changed(9), 0x22), "0000"),
+            (read(1, 0, 0, 0), "0028"),
+            (clear_all(1), "0000"),
+            (load(1, 0, &changed(16), 0x33), "0000"),
+            (read(1, 0, 0, 0), "0028"),
+            (power_cycle(), "0000"),
+            (load(1, 0, &changed(16), 0x33), "0000"),
+            (read(1, 0, 0, 0), "0028"),
+            (clear_one(1, 0), "0000"),
+            (load(1, 0, &A16[..30], 0x44), "0000"),
+            (read(1, 0, 0, 0), "0028"),
+            (clear_one(1, 0), "0000"),
+            (load(1, 0, A16, 0x11), "0000"),
+            (read(1, 0, 0, 0), "0000"),
+            (power_cycle(), "0000"),
+            (load(1, 0, A16, 0x11), "0000"),
+            (read(1, 0, 0, 0), "0000"),
+        ],
+    );
+    let (nine, other) = ("A0A1A2A3A4A5A6A7A8", "A0A1A2A3A4A5A6A7B8");
+    folder.add(
+        "marks-ninth-byte-replaced-and-back",
+        [
+            (manage(1, 1), "0000"),
+            (load(1, 0, nine, 0x11), "0000"),
             (write(1, 0, 0, 0), "0000"),
             (power_cycle(), "0000"),
-            (load(1, 0, "A0A1A2A3A4A5A6A7B8", 0x22), "0000"),
+            (load(1, 0, other, 0x22), "0000"),
+            (read(1, 0, 0, 0), "0028"),
+            (write(1, 0, 1, 0), "0000"),
+            (replace(1, 0, nine, "CC", 0x33), "070B"),
+            (replace(1, 0, other, nine, 0x11), "0000"),
             (read(1, 0, 0, 0), "0000"),
-            (write(1, 0, 0, 0), "0000"),
-            (replace(1, 0, "A0A1A2A3A4A5A6A7A8", "CC", 0x33), "070B"),
-            (replace(1, 0, "A0A1A2A3A4A5A6A7B8", "A0A1A2A3A4A5A6A7A8", 0x11), "0000"),
-            (read(1, 0, 0, 0), "0000"),
+            (read(1, 0, 1, 0), "0028"),
+            (write(1, 0, 1, 0), "0000"),
+            (read(1, 0, 0, 1), "0000"),
         ],
     );
 }
 
-fn identity_is_not_the_key(folder: &mut Folder) {
+fn key_is_not_compared(folder: &mut Folder) {
     folder.add(
         "marks-same-key-uid-with-another-key-reads",
         [
@@ -332,7 +401,7 @@ fn identity_is_not_the_key(folder: &mut Folder) {
     );
 }
 
-fn identity_of_the_time(folder: &mut Folder) {
+fn key_uid_of_the_time(folder: &mut Folder) {
     folder.add(
         "marks-hold-the-key-of-the-write",
         [

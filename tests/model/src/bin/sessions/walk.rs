@@ -214,17 +214,20 @@ impl Walk {
     }
 }
 
-/// Five KeyUIDs: beginnings of one run of bytes, some with one byte changed. A zero byte at the end of one makes it
-/// equal to a shorter one when padded; a change behind the eighth byte keeps the kept identity.
+/// Five KeyUIDs: two beginnings of one run of bytes, then three times an earlier one with one byte changed, or with a
+/// zero byte more, which padding hides. A change behind the eighth byte leaves the length and the first eight bytes.
 fn key_uids(dice: &mut Dice) -> Vec<String> {
     let run: Vec<u8> = (0..16).map(|_| dice.pick(&[0x00, 0xAA, 0xA5])).collect();
-    let uid = |dice: &mut Dice| {
-        let mut uid = run[..dice.pick(&[1, 2, 8, 9, 9, 16, 16])].to_vec();
-        if dice.once_in(2) {
-            let last = uid.len() - 1;
-            uid[dice.pick(&[0, last.min(7), last.min(8), last])] ^= 0x11;
+    let beginning = |_| run[..dice.pick(&[1, 2, 8, 9, 15, 15, 16, 16, 16, 16, 16])].to_vec();
+    let mut uids: Vec<Vec<u8>> = (0..2).map(beginning).collect();
+    for _ in 0..3 {
+        let mut uid = dice.pick(&uids);
+        let last = uid.len() - 1;
+        match last < 15 && dice.once_in(2) {
+            true => uid.push(0),
+            false => uid[dice.pick(&[0, last.min(8), last, last])] ^= 0x11,
         }
-        hex(&uid)
-    };
-    (0..5).map(|_| uid(dice)).collect()
+        uids.push(uid);
+    }
+    uids.iter().map(|uid| hex(uid)).collect()
 }
