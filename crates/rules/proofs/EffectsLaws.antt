@@ -123,7 +123,7 @@ length-identity uid = omega (arith, length-padded uidMost (take uidMost uid) (om
 
 pub length-held-identity : (x : Held) → length (identityOf x) ≡ markWidth
 length-held-identity nothing = length-zeros markWidth
-length-held-identity (holding x) = length-identity (x .uid)
+length-held-identity (holding x) = length-identity _
 
 module _ (s : State) (sized : Sized s) (ns : Namespace) (is : IsNamespace ns) (block : ℕ) (inside : block < blocksEach) where
   store : length (s .marks) ≡ storeSize
