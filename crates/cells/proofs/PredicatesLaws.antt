@@ -16,7 +16,7 @@ use lib.Dec.{eqb}
 use borrow.Author.Tests.{eq-eqb, eqb-true}
 use Rattle.cells.specs.Cells.{part, cell, zeros}
 use Rattle.cells.specs.Predicates.{same, samePart, allZero, someFrom, someCell}
-use Rattle.cells.proofs.CellsLaws.{within-yes}
+use Rattle.cells.proofs.CellsLaws.{part-join, part-byte, length-part, within-yes}
 
 -- ------------------------------------------------------------------------
 -- Bools
@@ -57,6 +57,26 @@ same-eq (x ∷ xs) (y ∷ ys) e =
     let h : x ≡ y = eqb-true x y (and-left _ _ e) in
     let t : xs ≡ ys = same-eq xs ys (and-right (eqb x y) _ e) in
     cc
+
+-- two joined lists, the first two of one length
+pub same-join : (xs us ys vs : List ℕ) → length xs ≡ length us → same (xs ++ ys) (us ++ vs) ≡ same xs us && same ys vs
+unfolding same
+same-join [] [] ys vs l = refl
+same-join [] (u ∷ us) ys vs l = absurd (omega arith)
+same-join (x ∷ xs) [] ys vs l = absurd (omega arith)
+same-join (x ∷ xs) (u ∷ us) ys vs l = rw (same-join xs us ys vs (omega arith)) (sym (and-assoc (eqb x u) (same xs us) (same ys vs)))
+
+-- so parts of m + n bytes are the same when the first m and the other n are
+pub same-parts : (a b m n : ℕ) (xs ys : List ℕ) → a + m ≤ length xs → b + m ≤ length ys
+    → same (part a (m + n) xs) (part b (m + n) ys) ≡ same (part a m xs) (part b m ys) && same (part (a + m) n xs) (part (b + m) n ys)
+same-parts a b m n xs ys p q =
+    ap (λ z. same z (part b (m + n) ys)) (part-join a m n xs)
+    ∙ ap (same (part a m xs ++ part (a + m) n xs)) (part-join b m n ys)
+    ∙ same-join (part a m xs) (part b m ys) (part (a + m) n xs) (part (b + m) n ys) (length-part a m xs p ∙ sym (length-part b m ys q))
+
+pub same-byte : (a b : ℕ) (xs ys : List ℕ) → a < length xs → b < length ys → same (part a 1 xs) (part b 1 ys) ≡ eqb (getD xs a 0) (getD ys b 0)
+unfolding same
+same-byte a b xs ys p q = rw (part-byte a xs p, part-byte b ys q) (and-true (eqb (getD xs a 0) (getD ys b 0)))
 
 pub allZero-zeros : (n : ℕ) → allZero (zeros n) ≡ true
 unfolding allZero zeros

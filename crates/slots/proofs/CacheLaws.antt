@@ -1,8 +1,8 @@
 -- The key cache at its own length and at another, and a slot's parts where they
 -- stand in it.
 -- Assumes nothing.
-use mathlib.Core.Path.{_≡_, refl, ap, _∙_}
-use mathlib.Core.Bool.{true, false, not, cond}
+use mathlib.Core.Path.{_≡_, refl, sym, ap, _∙_}
+use mathlib.Core.Bool.{true, false, not, _&&_, cond}
 use mathlib.Core.List.{List, [], _∷_, _++_, append-nil}
 use mathlib.Core.Logic.{by-cases}
 use Prim.Native.Nat.{ℕ, _+_, _-_, _*_, _≤_, _<_}
@@ -14,7 +14,9 @@ use lib.Dec.{eqb}
 use lib.Seq.{set-split}
 use borrow.Author.Tests.{eq-eqb, ne-eqb, lt-ltb, le-leb}
 use Rattle.cells.specs.Cells.{part, cell, zeros, put, fill}
-use Rattle.cells.proofs.CellsLaws.{length-cell, first-cell, part-end, part-cell, cell-past, lent-length-to, copied, push, fill-all}
+use Rattle.cells.specs.Predicates.{same}
+use Rattle.cells.proofs.CellsLaws.{length-cell, first-cell, part-end, part-cell, part-whole, cell-past, lent-length-to, copied, push, fill-all}
+use Rattle.cells.proofs.PredicatesLaws.{same-parts, same-byte}
 use Rattle.rules.specs.declared.Namespace.{Namespace}
 use Rattle.rules.specs.Numbers.{tagsMost, uidMost, keySize, slotWidth, slotPlaces, cacheSize}
 use Rattle.rules.specs.State.{wrongCache, keyTag, noNamespace}
@@ -108,6 +110,25 @@ module _ (keys : List ℕ) (place : ℕ) (size : length keys ≡ cacheSize) wher
 
     pub head-at : headOf (cell slotWidth place keys) ≡ part (place * slotWidth) headSize keys
     head-at = part-cell slotWidth place 0 headSize keys fits (omega arith) ∙ ap (λ k. part k headSize keys) (add-zero (place * slotWidth))
+
+    -- the head against another: the length, then the KeyUID's first n bytes, then the others
+    pub head-parts : (head : List ℕ) (n : ℕ) → length head ≡ headSize → n ≤ uidMost
+        → same (headOf (cell slotWidth place keys)) head
+        ≡ eqb (getD keys (place * slotWidth) 0) (getD head 0 0)
+        && (same (part (place * slotWidth + 1) n keys) (part 1 n head)
+        && same (part (place * slotWidth + (1 + n)) (uidMost - n) keys) (part (1 + n) (uidMost - n) head))
+    head-parts head n whole h =
+        let a : ℕ = place * slotWidth in
+        let e : uidMost ≡ n + (uidMost - n) = omega (arith, h) in
+        let f : a + 1 + n ≡ a + (1 + n) = omega arith in
+        let rest = ap (λ k. same (part (a + 1) k keys) (part 1 k head)) e
+        ∙ same-parts (a + 1) 1 n (uidMost - n) keys head (omega (arith, fits)) (omega arith)
+        ∙ ap (λ k. same (part (a + 1) n keys) (part 1 n head) && same (part k (uidMost - n) keys) (part (1 + n) (uidMost - n) head)) f in
+        ap (λ x. same x head) head-at
+        ∙ ap (same (part a headSize keys)) (sym (part-whole headSize head whole))
+        ∙ same-parts a 0 1 uidMost keys head (omega (arith, fits)) (omega arith)
+        ∙ ap (λ b. b && same (part (a + 1) uidMost keys) (part 1 uidMost head)) (same-byte a 0 keys head (omega (arith, fits)) (omega arith))
+        ∙ ap (λ b. eqb (getD keys a 0) (getD head 0 0) && b) rest
 
     pub after-at : (n : ℕ) → getD keys (place * slotWidth) 0 ≡ n → n ≤ uidMost
         → afterUid (cell slotWidth place keys) ≡ part (place * slotWidth + (1 + n)) (uidMost - n) keys

@@ -4,13 +4,12 @@ ghost use mathlib.Core.Bool.{false, _&&_, _||_};
 ghost use Prim.Native.Nat.{_+_, _*_, _/_, _%_, _≤_, _<_};
 ghost use lib.Dec.{leb, ltb};
 ghost use lib.ListN.{length, getD};
-ghost use Rattle.cells.specs.Cells.{cell};
+ghost use Rattle.cells.specs.Cells.{part, cell};
 ghost use Rattle.cells.specs.Predicates.{same, someCell};
 ghost use Rattle.rules.specs.Numbers.{namespaces, poolSlots, tagsMost, slotWidth, slotPlaces, cacheSize};
 ghost use Rattle.rules.specs.State.{total};
 ghost use Rattle.rules.specs.Sound.{someAbove, slotUnsound};
 ghost use Rattle.slots.specs.Cache.{allocated, headSize, headOf, otherKeyBehind};
-use crate::bytes::HEAD_SIZE;
 use crate::bytes::same_key;
 use rules::NAMESPACES;
 use rules::POOL_SLOTS;
@@ -19,19 +18,44 @@ use rules::SLOT_WIDTH;
 use rules::TAGS_MOST;
 use rules::UID_MOST;
 
-// Whether the slot has this head. As many turns for every slot, and no way out of the loop: the compiler compares the head at once.
+// As many bytes as a processor compares in one step.
+const HALF_UID: usize = UID_MOST / 2;
+
+// Whether the n bytes from a on are those of the head from b on. As many turns whatever they are, and no way out of the loop: the compiler
+// compares half a KeyUID at once.
+fn same_run(keys: &[u8], a: usize, head: &[u8], b: usize, n: usize) -> bool
+    requires { ⌜ (a + n ≤ length (now keys)) × (b + n ≤ length (now head)) ⌝ }
+    ensures { λ r. ⌜ r ≡ same (part a n (now (keys .entry))) (part b n (now (head .entry))) ⌝ }
+{
+    let mut same = true;
+    let mut i = 0;
+    while i < n {
+        same = same & (keys[a + i] == head[b + i]);
+        i += 1;
+    }
+    same
+}
+
+// Whether the slot has this head: lengths first, so that of an empty slot no other byte is looked at; then the KeyUID, half by half, up to
+// the first half that differs.
 fn same_head(keys: &[u8], place: usize, head: &[u8]) -> bool
     requires { ⌜ (length (now keys) ≡ cacheSize) × (place < slotPlaces) × (length (now head) ≡ headSize) ⌝ }
     ensures { λ r. ⌜ r ≡ same (headOf (cell slotWidth place (now (keys .entry)))) (now (head .entry)) ⌝ }
 {
     let a = place * SLOT_WIDTH;
-    let mut same = true;
-    let mut i = 0;
-    while i < HEAD_SIZE {
-        same = same & (keys[a + i] == head[i]);
-        i += 1;
+    if keys[a] != head[0] {
+        return false;
     }
-    same
+    if same_run(keys, a + 1, head, 1, HALF_UID) {
+        return same_run(
+            keys,
+            a + (1 + HALF_UID),
+            head,
+            1 + HALF_UID,
+            UID_MOST - HALF_UID,
+        );
+    }
+    false
 }
 
 fn other_key_at(keys: &[u8], place: usize, head: &[u8], key: &[u8]) -> bool

@@ -1,62 +1,48 @@
--- `same_head` meets its contract: the answer so far, and what is left of the two, decide.
+-- `same_head` meets its contract: each return is one way through the head's parts.
 -- Assumes nothing.
 use borrow.Author.Needs.{needs}
 use native.Mathlib.Omega.{arith}
 use mathlib.Core.Path.{_≡_, refl, sym, ap, _∙_}
-use mathlib.Core.Bool.{_&&_}
-use Prim.Native.Nat.{_+_, _-_, _*_, _≤_}
+use mathlib.Core.Bool.{Bool, _&&_}
+use Prim.Native.Nat.{_+_, _*_}
 use lib.Dec.{eqb}
-use lib.ListN.{getD, drop}
-use Rattle.cells.specs.Cells.{part}
-use Rattle.cells.specs.Predicates.{same}
-use Rattle.cells.proofs.CellsLaws.{length-part, getD-part}
-use Rattle.cells.proofs.PredicatesLaws.{same-turn, same-end}
+use lib.ListN.{getD}
+use borrow.Author.Tests.{eq-eqb, ne-eqb}
 use Rattle.rules.specs.Numbers.{slotWidth}
-use Rattle.slots.specs.Cache.{headSize}
-use Rattle.slots.proofs.CacheLaws.{head-at}
+use Rattle.slots.proofs.CacheLaws.{head-parts}
 use Rattle.slots.proofs.scan.same_head.Statement.{statement}
 use Rattle.slots.proofs.scan.same_head.Tie as tie
 
-abbrev Inv-loop : tie.InvT-loop
-Inv-loop keys place head a r₀ i₀ r i =
-    (i ≤ headSize)
-    × (r && same (drop i (part (place * slotWidth) headSize keys)) (drop i head) ≡ same (part (place * slotWidth) headSize keys) head)
-
-abbrev μ-loop : tie.MeasureT-loop
-μ-loop keys place head a r₀ i₀ r i = headSize - i
-
-loop-holds : tie.Need-loop-holds Inv-loop μ-loop
-loop-holds c = (omega arith, refl)
-
-loop-again : tie.Need-loop-again Inv-loop μ-loop
-loop-again c =
-    let s : tie.Start Inv-loop μ-loop = search in
-    let l : tie.At-loop Inv-loop μ-loop = search in
-    let a = s .args in
-    let i = l .loop .i in
-    let slot = part (a .place * slotWidth) headSize (a .keys .now) in
-    let whole = length-part (a .place * slotWidth) headSize (a .keys .now) (omega arith) in
-    let byte = getD-part (a .place * slotWidth) headSize i (a .keys .now) (omega arith) in (
-      omega arith,
-      ap (λ b. (l .loop .same && eqb b (getD (a .head .now) i 0)) && same (drop (i + 1) slot) (drop (i + 1) (a .head .now))) (sym byte)
-          ∙ same-turn slot (a .head .now) i (l .loop .same) (omega arith) (omega arith)
-          ∙ l .loop .inv .1,
-    )
-
-returns : tie.Need-returns Inv-loop μ-loop
+returns : tie.Need-returns
 returns c =
-    let s : tie.Start Inv-loop μ-loop = search in
-    let l : tie.At-loop Inv-loop μ-loop = search in
+    let s : tie.Start = search in
     let a = s .args in
-    let slot = part (a .place * slotWidth) headSize (a .keys .now) in
-    let whole = length-part (a .place * slotWidth) headSize (a .keys .now) (omega arith) in
-    same-end slot (a .head .now) (l .loop .i) (l .loop .same) (omega arith) (omega arith)
-    ∙ l .loop .inv .1
-    ∙ ap (λ h. same h (a .head .now)) (sym (head-at (a .keys .now) (a .place) (s .pre .0) (s .pre .1)))
+    let parts = head-parts (a .keys .now) (a .place) (s .pre .0) (s .pre .1) (a .head .now) 8 (s .pre .2) (omega arith) in
+    sym (parts ∙ rw (ne-eqb _ _ (c .if1 .taken)))
+
+returns-2 : tie.Need-returns-2
+returns-2 c =
+    let s : tie.Start = search in
+    let e : tie.Else1 = search in
+    let r : tie.After-same-run = search in
+    let t : tie.Then2 = search in
+    let a = s .args in
+    let parts = head-parts (a .keys .now) (a .place) (s .pre .0) (s .pre .1) (a .head .now) 8 (s .pre .2) (omega arith) in
+    c .same-run2 .ensures ∙ sym (parts ∙ rw (eq-eqb _ _ (e .if1 .left), sym (r .same-run .ensures) ∙ t .if2 .taken))
+
+returns-3 : tie.Need-returns-3
+returns-3 c =
+    let s : tie.Start = search in
+    let e : tie.Else1 = search in
+    let r : tie.After-same-run = search in
+    let a = s .args in
+    let parts = head-parts (a .keys .now) (a .place) (s .pre .0) (s .pre .1) (a .head .now) 8 (s .pre .2) (omega arith) in
+    sym (parts ∙ rw (eq-eqb _ _ (e .if1 .left), sym (r .same-run .ensures) ∙ c .if2 .left))
 
 pub same-head-spec : {M : Type 1} → statement M
 same-head-spec =
     tie.close
     (tie.spec
-    Inv-loop μ-loop (λ c. search needs) loop-holds
-    (λ c. omega arith) (λ c. omega arith) (λ c. omega arith) (λ c. omega arith) (λ c. omega arith) loop-again returns)
+    (λ c. search needs) (λ c. search needs) (λ c. search needs) returns
+    (λ c. search needs) (λ c κs. search needs)
+    (λ c. search needs) (λ c. search needs) (λ c. search needs) (λ c. search needs) (λ c κs. search needs) returns-2 returns-3)
