@@ -23,6 +23,10 @@ fn main() {
             print(&what, sessions(&series::loads(others, in_byte)));
         }
     }
+    for others in [4, 63] {
+        let what = format!("load and clear, {others} others, mixed lengths");
+        print(&what, sessions(&series::loads_of_mixed_lengths(others)));
+    }
     for blocks in [1, 16, 256] {
         print(&format!("write, {blocks} blocks"), sessions(&series::writes(blocks)));
     }

@@ -11,11 +11,23 @@ const FRAMES: usize = 20_000;
 /// A load and its clear in turn, in a pool of 64 with so many other slots loaded. The KeyUIDs have
 /// 16 bytes and differ in one.
 pub fn loads(others: usize, in_byte: usize) -> Course {
-    let uid = |slot: usize| {
+    load_and_clear(others, |slot| {
         let mut uid = [0x5A; KEY_UID];
         uid[in_byte] = slot as u8;
         hex(&uid)
-    };
+    })
+}
+
+/// The same with KeyUIDs of 1 to 16 bytes, which differ in the first.
+pub fn loads_of_mixed_lengths(others: usize) -> Course {
+    load_and_clear(others, |slot| {
+        let mut uid = [0x5A; KEY_UID];
+        uid[0] = slot as u8;
+        hex(&uid[..KEY_UID - slot % KEY_UID])
+    })
+}
+
+fn load_and_clear(others: usize, uid: impl Fn(usize) -> String) -> Course {
     let managed = [manage(1, 32), manage(2, 32)];
     let loaded = (1..=others).map(|slot| {
         let (namespace, tag) = (1 + slot / 32, slot % 32);
