@@ -120,7 +120,7 @@ fn other_key(registers: Registers, keys: &[u8], uid: &[u8], key: &[u8]) -> bool
     ensures { λ r. ⌜ r ≡ otherKey (now (keys .entry)) (contents (now (uid .entry)) (now (key .entry))) ⌝ }
 {
     let counts = registers.counts;
-    slots::other_key(counts, keys, uid, key)
+    slots::other_key_allocated(counts, keys, uid, key)
 }
 
 // The last check of load and replace, and what both then do.

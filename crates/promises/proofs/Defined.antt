@@ -15,7 +15,7 @@ use Rattle.digits.proofs.write_answer.Met as digits-write-answer
 use Rattle.frames.proofs.read.Met as frames-read
 use Rattle.slots.proofs.loaded.Met as slots-loaded
 use Rattle.slots.proofs.holds_uid.Met as slots-holds-uid
-use Rattle.slots.proofs.other_key.Met as slots-other-key
+use Rattle.slots.proofs.other_key_allocated.Met as slots-other-key-allocated
 use Rattle.slots.proofs.unsound.Met as slots-unsound
 use Rattle.slots.proofs.store.Met as slots-store
 use Rattle.slots.proofs.clear.Met as slots-clear
@@ -57,7 +57,7 @@ defined = record {
   frames-read-ends = frames-read.met;
   slots-loaded-ends = slots-loaded.met;
   slots-holds-uid-ends = slots-holds-uid.met;
-  slots-other-key-ends = slots-other-key.met;
+  slots-other-key-allocated-ends = slots-other-key-allocated.met;
   slots-unsound-ends = slots-unsound.met;
   slots-store-ends = slots-store.met;
   slots-clear-ends = slots-clear.met;

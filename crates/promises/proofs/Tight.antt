@@ -24,7 +24,7 @@ use Rattle.promises.specs.Tight.{Tight-cells-fill-zero, Tight-cells-copy
 use Rattle.promises.specs.Tight.{Tight-cells-same-part}
 use Rattle.promises.specs.Tight.{Tight-discovery-own-fields, Tight-discovery-write, Tight-discovery-read, Tight-tuffaleen-c-discovery}
 use Rattle.promises.specs.Tight.{Tight-digits-read-line, Tight-digits-number, Tight-digits-write-answer}
-use Rattle.promises.specs.Tight.{Tight-slots-loaded, Tight-slots-holds-uid, Tight-slots-other-key, Tight-slots-unsound, Tight-slots-store}
+use Rattle.promises.specs.Tight.{Tight-slots-loaded, Tight-slots-holds-uid, Tight-slots-other-key-allocated, Tight-slots-unsound, Tight-slots-store}
 use Rattle.promises.specs.Tight.{Tight-slots-clear, Tight-slots-clear-namespace, Tight-slots-clear-all}
 use Rattle.promises.specs.Tight.{Tight-marks-some-differs, Tight-marks-mark, Tight-marks-zero-namespace}
 use Rattle.promises.specs.Tight.{Tight-locks-decide, Tight-locks-shown, Tight-locks-lock-value, Tight-locks-boot-write, Tight-locks-both-locked}
@@ -81,8 +81,8 @@ tight-slots-loaded = (λ κs args. tt, λ κs args r r′ e e′ p q. one p q)
 pub tight-slots-holds-uid : Tight-slots-holds-uid
 tight-slots-holds-uid = (λ κs args. tt, λ κs args r r′ e e′ p q. one p q)
 
-pub tight-slots-other-key : Tight-slots-other-key
-tight-slots-other-key = (λ κs args. tt, λ κs args r r′ e e′ p q. one p q)
+pub tight-slots-other-key-allocated : Tight-slots-other-key-allocated
+tight-slots-other-key-allocated = (λ κs args. tt, λ κs args r r′ e e′ p q. one p q)
 
 pub tight-slots-unsound : Tight-slots-unsound
 tight-slots-unsound = (λ κs args. tt, λ κs args r r′ e e′ p q. one p q)

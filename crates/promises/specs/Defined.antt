@@ -16,7 +16,7 @@ use Rattle.digits.proofs.write_answer.Statement as digits-write-answer
 use Rattle.frames.proofs.read.Statement as frames-read
 use Rattle.slots.proofs.loaded.Statement as slots-loaded
 use Rattle.slots.proofs.holds_uid.Statement as slots-holds-uid
-use Rattle.slots.proofs.other_key.Statement as slots-other-key
+use Rattle.slots.proofs.other_key_allocated.Statement as slots-other-key-allocated
 use Rattle.slots.proofs.unsound.Statement as slots-unsound
 use Rattle.slots.proofs.store.Statement as slots-store
 use Rattle.slots.proofs.clear.Statement as slots-clear
@@ -57,7 +57,7 @@ pub record Defined (M : Type 1) : Type 2 where
   pub frames-read-ends : frames-read.statement M
   pub slots-loaded-ends : slots-loaded.statement M
   pub slots-holds-uid-ends : slots-holds-uid.statement M
-  pub slots-other-key-ends : slots-other-key.statement M
+  pub slots-other-key-allocated-ends : slots-other-key-allocated.statement M
   pub slots-unsound-ends : slots-unsound.statement M
   pub slots-store-ends : slots-store.statement M
   pub slots-clear-ends : slots-clear.statement M

@@ -38,7 +38,7 @@ use Rattle.digits.proofs.write_answer.Reads as digits-write-answer
 use Rattle.frames.proofs.read.Reads as frames-read
 use Rattle.slots.proofs.loaded.Reads as slots-loaded
 use Rattle.slots.proofs.holds_uid.Reads as slots-holds-uid
-use Rattle.slots.proofs.other_key.Reads as slots-other-key
+use Rattle.slots.proofs.other_key_allocated.Reads as slots-other-key-allocated
 use Rattle.slots.proofs.unsound.Reads as slots-unsound
 use Rattle.slots.proofs.store.Reads as slots-store
 use Rattle.slots.proofs.clear.Reads as slots-clear
@@ -123,8 +123,8 @@ Tight-slots-loaded = Tight {Left = Bool} slots-loaded.Asked slots-loaded.Learnt 
 abbrev pub Tight-slots-holds-uid : Type 0
 Tight-slots-holds-uid = Tight {Left = Bool} slots-holds-uid.Asked slots-holds-uid.Learnt (λ κs result exit. result)
 
-abbrev pub Tight-slots-other-key : Type 0
-Tight-slots-other-key = Tight {Left = Bool} slots-other-key.Asked slots-other-key.Learnt (λ κs result exit. result)
+abbrev pub Tight-slots-other-key-allocated : Type 0
+Tight-slots-other-key-allocated = Tight {Left = Bool} slots-other-key-allocated.Asked slots-other-key-allocated.Learnt (λ κs result exit. result)
 
 abbrev pub Tight-slots-unsound : Type 0
 Tight-slots-unsound = Tight {Left = Bool} slots-unsound.Asked slots-unsound.Learnt (λ κs result exit. result)

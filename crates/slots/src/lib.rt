@@ -55,7 +55,7 @@ pub fn holds_uid(keys: &[u8], place: usize, uid: &[u8]) -> bool
 // 07 0C: whether a slot has this KeyUID and another key. It looks at allocated tags alone, a count above TAGS_MOST as TAGS_MOST, and at
 // the length byte and the padded KeyUID: for a KeyUID of 1 byte or more in a sound state that finds every loaded slot with this KeyUID
 // and no other (proofs/AllocatedLaws.antt). It makes the head once; a KeyUID above UID_MOST bytes is in no slot.
-pub fn other_key(counts: [u8; NAMESPACES], keys: &[u8], uid: &[u8], key: &[u8]) -> bool
+pub fn other_key_allocated(counts: [u8; NAMESPACES], keys: &[u8], uid: &[u8], key: &[u8]) -> bool
     ensures { λ r. ⌜ r ≡ otherKeyAllocated counts (now (keys .entry)) (record { uid = now (uid .entry); key = now (key .entry) }) ⌝ }
 {
     if keys.len() != CACHE_SIZE {

@@ -12,7 +12,7 @@ returns : tie.Need-returns
 returns c =
     let s : tie.Start = search in
     let a = s .args in
-    c .other-key .ensures
+    c .other-key-allocated .ensures
     ∙ sound-other-key (state (a .registers) (a .keys .now) []) (s .pre .1) (contents (a .uid .now) (a .key .now)) (s .pre .0 .some)
 
 pub other-key-spec : {M : Type 1} → statement M

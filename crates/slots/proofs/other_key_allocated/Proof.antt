@@ -1,4 +1,4 @@
--- `other_key` meets its contract: the search is for the head of a slot with this KeyUID.
+-- `other_key_allocated` meets its contract: the search is for the head of a slot with this KeyUID.
 -- Assumes nothing.
 use borrow.Author.Needs.{needs}
 use mathlib.Core.Path.{sym, ap, _∙_}
@@ -8,8 +8,8 @@ use Rattle.slots.specs.Cache.{otherKeyAllocated}
 use Rattle.slots.proofs.CacheLaws.{wrong-cache}
 use Rattle.slots.proofs.AllocatedLaws.{other-key-is, long-none}
 use Rattle.slots.proofs.ScanLaws.{otherAt}
-use Rattle.slots.proofs.other_key.Statement.{statement}
-use Rattle.slots.proofs.other_key.Tie as tie
+use Rattle.slots.proofs.other_key_allocated.Statement.{statement}
+use Rattle.slots.proofs.other_key_allocated.Tie as tie
 
 returns : tie.Need-returns
 unfolding otherKeyAllocated
@@ -32,8 +32,8 @@ returns-3 c =
     ∙ ap (λ head. someCell slotWidth 0 slotPlaces (otherAt (s .args .counts) head (s .args .key .now)) (s .args .keys .now)) (h .set-head .ensures)
     ∙ sym (other-key-is (s .args .counts) (s .args .keys .now) (e .if1 .left) _)
 
-pub other-key-spec : {M : Type 1} → statement M
-other-key-spec =
+pub other-key-allocated-spec : {M : Type 1} → statement M
+other-key-allocated-spec =
     tie.close
     (tie.spec
     returns returns-2 (λ c. search needs) (λ c κs. search needs) (λ c. search needs) (λ c κs. search needs) returns-3)
