@@ -24,6 +24,8 @@ const KEY_PER_IO_LENGTH: u8 = (KEY_PER_IO_SIZE - HEAD_SIZE) as u8;
 // The Key Per I/O feature is written in three parts of this size.
 const THIRD: usize = KEY_PER_IO_SIZE / 3;
 
+const BACK_AT: usize = THIRD + THIRD;
+
 pub(crate) fn header_bytes(h: DiscoveryHeader) -> [u8; HEADER_SIZE]
     ensures { λ r. ⌜ r ≡ headerBytes h ⌝ }
 {
@@ -139,8 +141,8 @@ pub(crate) fn key_per_io_bytes(k: KeyPerIo) -> [u8; KEY_PER_IO_SIZE]
     let middle = middle(k);
     let back = back(k);
     let mut bytes = [0u8; KEY_PER_IO_SIZE];
-    cells::copy(&mut bytes[..16], &front);
-    cells::copy(&mut bytes[16..32], &middle);
-    cells::copy(&mut bytes[32..48], &back);
+    cells::copy(&mut bytes[..THIRD], &front);
+    cells::copy(&mut bytes[THIRD..BACK_AT], &middle);
+    cells::copy(&mut bytes[BACK_AT..KEY_PER_IO_SIZE], &back);
     bytes
 }

@@ -49,7 +49,7 @@ storeSize = markPlaces * markWidth
 abbrev pub digitsMost : ℕ
 digitsMost = 140
 
--- an answer line has at most 13 bytes
+-- an answer line has at most 13 bytes, but for that of discovery, below
 abbrev pub answerMost : ℕ
 answerMost = 13
 

@@ -16,7 +16,7 @@ use borrow.Author.Tests.{eq-eqb, ne-eqb, lt-ltb, le-leb}
 use Rattle.cells.specs.Cells.{part, cell, zeros, put, fill}
 use Rattle.cells.specs.Predicates.{same}
 use Rattle.cells.proofs.CellsLaws.{length-cell, first-cell, part-end, part-cell, part-whole, cell-past, lent-length-to, copied, push, fill-all}
-use Rattle.cells.proofs.PredicatesLaws.{same-parts, same-byte}
+use Rattle.cells.proofs.PredicatesLaws.{same-split, same-byte}
 use Rattle.rules.specs.declared.Namespace.{Namespace}
 use Rattle.rules.specs.Numbers.{tagsMost, uidMost, keySize, slotWidth, slotPlaces, cacheSize}
 use Rattle.rules.specs.State.{wrongCache, keyTag, noNamespace}
@@ -122,11 +122,11 @@ module _ (keys : List ℕ) (place : ℕ) (size : length keys ≡ cacheSize) wher
         let e : uidMost ≡ n + (uidMost - n) = omega (arith, h) in
         let f : a + 1 + n ≡ a + (1 + n) = omega arith in
         let rest = ap (λ k. same (part (a + 1) k keys) (part 1 k head)) e
-        ∙ same-parts (a + 1) 1 n (uidMost - n) keys head (omega (arith, fits)) (omega arith)
+        ∙ same-split (a + 1) 1 n (uidMost - n) keys head (omega (arith, fits)) (omega arith)
         ∙ ap (λ k. same (part (a + 1) n keys) (part 1 n head) && same (part k (uidMost - n) keys) (part (1 + n) (uidMost - n) head)) f in
         ap (λ x. same x head) head-at
         ∙ ap (same (part a headSize keys)) (sym (part-whole headSize head whole))
-        ∙ same-parts a 0 1 uidMost keys head (omega (arith, fits)) (omega arith)
+        ∙ same-split a 0 1 uidMost keys head (omega (arith, fits)) (omega arith)
         ∙ ap (λ b. b && same (part (a + 1) uidMost keys) (part 1 uidMost head)) (same-byte a 0 keys head (omega (arith, fits)) (omega arith))
         ∙ ap (λ b. eqb (getD keys a 0) (getD head 0 0) && b) rest
 

@@ -21,6 +21,11 @@ use rules::UID_MOST;
 // As many bytes as a processor compares in one step.
 const HALF_UID: usize = UID_MOST / 2;
 
+// The bytes of a padded KeyUID behind these, and where they stand in a head.
+const REST_UID: usize = UID_MOST - HALF_UID;
+
+const REST_AT: usize = 1 + HALF_UID;
+
 // Whether the n bytes from a on are those of the head from b on. As many turns whatever they are, and no way out of the loop: the compiler
 // compares half a KeyUID at once.
 fn same_run(keys: &[u8], a: usize, head: &[u8], b: usize, n: usize) -> bool
@@ -47,13 +52,7 @@ fn same_head(keys: &[u8], place: usize, head: &[u8]) -> bool
         return false;
     }
     if same_run(keys, a + 1, head, 1, HALF_UID) {
-        return same_run(
-            keys,
-            a + (1 + HALF_UID),
-            head,
-            1 + HALF_UID,
-            UID_MOST - HALF_UID,
-        );
+        return same_run(keys, a + REST_AT, head, REST_AT, REST_UID);
     }
     false
 }
