@@ -4,14 +4,14 @@ use std::collections::BTreeMap;
 
 use embed::Rng;
 use model::lines::*;
-use model::numbers::{BLOCKS, NAMESPACES, ROOM, SLOT, STORE, TAGS};
+use model::numbers::{BLOCKS, NAMESPACES, POOL, ROOM, SLOT, STORE, TAGS};
 use model::Drive;
 
 use crate::race::Course;
 
 const SEED: u64 = 11;
 /// Tags that each namespace gets, so that the four share the whole pool.
-const TAGS_EACH: u8 = 16;
+const TAGS_EACH: u8 = (POOL / NAMESPACES) as u8;
 
 /// How often each kind comes, in turns of 1000; what is left are lines that are no frame.
 const TURNS: usize = 1000;

@@ -1,14 +1,14 @@
 //! One kind of frame again and again, with one thing growing.
 
 use model::lines::*;
-use model::numbers::{KEY_UID, ROOM, STORE};
+use model::numbers::{KEY_UID, POOL, ROOM, STORE, TAGS};
 use model::{status, Drive};
 
 use crate::race::Course;
 
 const FRAMES: usize = 20_000;
 
-/// A load and its clear in turn, in a pool of 64 with so many other slots loaded. The KeyUIDs have
+/// A load and its clear in turn, in a full pool with so many other slots loaded. The KeyUIDs have
 /// 16 bytes and differ in one.
 pub fn loads(others: usize, in_byte: usize) -> Course {
     load_and_clear(others, |slot| {
@@ -28,13 +28,28 @@ pub fn loads_of_mixed_lengths(others: usize) -> Course {
 }
 
 fn load_and_clear(others: usize, uid: impl Fn(usize) -> String) -> Course {
-    let managed = [manage(1, 32), manage(2, 32)];
     let loaded = (1..=others).map(|slot| {
-        let (namespace, tag) = (1 + slot / 32, slot % 32);
+        let (namespace, tag) = (1 + slot / TAGS, slot % TAGS);
         load(namespace as u8, tag as u16, &uid(slot), slot as u8)
     });
     let turns = [load(1, 0, &uid(0), 0xEE), clear_one(1, 0)];
-    course(managed.into_iter().chain(loaded), &turns)
+    course(whole_pool().chain(loaded), &turns)
+}
+
+/// Every tag of the pool given to the first namespaces.
+fn whole_pool() -> impl Iterator<Item = String> {
+    (0..POOL / TAGS).map(|index| manage(1 + index as u8, TAGS as u8))
+}
+
+/// Four keys in namespace 1, and one line again and again: with just their four tags managed, or
+/// with every tag of the pool.
+pub fn four_keys(all_managed: bool, line: &str) -> Course {
+    let loaded = (0..4).map(|tag| load(1, tag, &hex(&[0x5A, tag as u8]), tag as u8));
+    let turns = [line.to_string()];
+    match all_managed {
+        true => course(whole_pool().chain(loaded), &turns),
+        false => course([manage(1, 4)].into_iter().chain(loaded), &turns),
+    }
 }
 
 /// One write again and again.

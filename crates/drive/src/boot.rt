@@ -2,11 +2,9 @@
 ghost use mathlib.Core.Path.{_≡_};
 ghost use mathlib.Core.List.{List};
 ghost use Prim.Native.Nat.{ℕ};
-ghost use lib.ListN.{length};
-ghost use Rattle.rules.specs.Numbers.{cacheSize};
 ghost use Rattle.rules.specs.State.{obey};
 ghost use Rattle.rules.specs.Order.{setFeatures, getFeatures, bootWrite, reset as resetRule};
-ghost use Rattle.drive.specs.Acting.{state, outcome};
+ghost use Rattle.drive.specs.Acting.{state, outcome, Sound};
 use crate::Answered;
 use crate::answers::done;
 use crate::answers::refused;
@@ -48,7 +46,7 @@ pub(crate) fn boot_write(registers: Registers, partition: u8) -> Answered
 
 // 00 controller level, which changes nothing; 01 power cycle, after which the pair is the same whatever it was.
 pub(crate) fn reset(registers: Registers, keys: &mut [u8], level: u8) -> Answered
-    requires { ⌜ length (now keys) ≡ cacheSize ⌝ }
+    requires { ⌜ Sound registers (now keys) ⌝ }
     ensures { λ r. ⌜ ((marks : List ℕ) → outcome r (now (keys .exit)) marks
         ≡ obey (state registers (now (keys .entry)) marks) (resetRule (state registers (now (keys .entry)) marks) level)) ⌝ }
 {
@@ -58,7 +56,8 @@ pub(crate) fn reset(registers: Registers, keys: &mut [u8], level: u8) -> Answere
     if level == 0 {
         return done(registers);
     }
-    slots::clear_all(keys);
+    let counts = registers.counts;
+    slots::clear_allocated(counts, keys);
     let locks = locks::both_locked();
     done(with_locks(registers, locks))
 }

@@ -91,26 +91,28 @@ pub(crate) fn release(
     if no_namespace(ns) {
         return refused(registers, Refusal::InvalidNamespace);
     }
-    if count(registers, ns) == 0 {
+    let tags = count(registers, ns);
+    if tags == 0 {
         return refused(registers, Refusal::NotManaged);
     }
-    slots::clear_namespace(keys, ns);
+    slots::clear_up_to(keys, ns, tags);
     marks::zero_namespace(marks, ns);
     done(with_count(registers, ns, 0))
 }
 
 pub(crate) fn clear_all(registers: Registers, keys: &mut [u8], ns: Namespace) -> Answered
-    requires { ⌜ length (now keys) ≡ cacheSize ⌝ }
+    requires { ⌜ Sound registers (now keys) ⌝ }
     ensures { λ r. ⌜ ((marks : List ℕ) → outcome r (now (keys .exit)) marks
         ≡ obey (state registers (now (keys .entry)) marks) (clearAllRule (state registers (now (keys .entry)) marks) ns)) ⌝ }
 {
     if no_namespace(ns) {
         return refused(registers, Refusal::InvalidNamespace);
     }
-    if count(registers, ns) == 0 {
+    let tags = count(registers, ns);
+    if tags == 0 {
         return refused(registers, Refusal::NotManaged);
     }
-    slots::clear_namespace(keys, ns);
+    slots::clear_up_to(keys, ns, tags);
     done(registers)
 }
 

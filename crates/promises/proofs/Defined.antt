@@ -19,8 +19,9 @@ use Rattle.slots.proofs.other_key_allocated.Met as slots-other-key-allocated
 use Rattle.slots.proofs.unsound.Met as slots-unsound
 use Rattle.slots.proofs.store.Met as slots-store
 use Rattle.slots.proofs.clear.Met as slots-clear
-use Rattle.slots.proofs.clear_namespace.Met as slots-clear-namespace
 use Rattle.slots.proofs.clear_all.Met as slots-clear-all
+use Rattle.slots.proofs.clear_up_to.Met as slots-clear-up-to
+use Rattle.slots.proofs.clear_allocated.Met as slots-clear-allocated
 use Rattle.marks.proofs.some_differs.Met as marks-some-differs
 use Rattle.marks.proofs.mark.Met as marks-mark
 use Rattle.marks.proofs.zero_namespace.Met as marks-zero-namespace
@@ -61,8 +62,9 @@ defined = record {
   slots-unsound-ends = slots-unsound.met;
   slots-store-ends = slots-store.met;
   slots-clear-ends = slots-clear.met;
-  slots-clear-namespace-ends = slots-clear-namespace.met;
   slots-clear-all-ends = slots-clear-all.met;
+  slots-clear-up-to-ends = slots-clear-up-to.met;
+  slots-clear-allocated-ends = slots-clear-allocated.met;
   marks-some-differs-ends = marks-some-differs.met;
   marks-mark-ends = marks-mark.met;
   marks-zero-namespace-ends = marks-zero-namespace.met;

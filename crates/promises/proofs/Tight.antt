@@ -25,7 +25,7 @@ use Rattle.promises.specs.Tight.{Tight-cells-same-part}
 use Rattle.promises.specs.Tight.{Tight-discovery-own-fields, Tight-discovery-write, Tight-discovery-read, Tight-tuffaleen-c-discovery}
 use Rattle.promises.specs.Tight.{Tight-digits-read-line, Tight-digits-number, Tight-digits-write-answer}
 use Rattle.promises.specs.Tight.{Tight-slots-loaded, Tight-slots-holds-uid, Tight-slots-other-key-allocated, Tight-slots-unsound, Tight-slots-store}
-use Rattle.promises.specs.Tight.{Tight-slots-clear, Tight-slots-clear-namespace, Tight-slots-clear-all}
+use Rattle.promises.specs.Tight.{Tight-slots-clear, Tight-slots-clear-all, Tight-slots-clear-up-to, Tight-slots-clear-allocated}
 use Rattle.promises.specs.Tight.{Tight-marks-some-differs, Tight-marks-mark, Tight-marks-zero-namespace}
 use Rattle.promises.specs.Tight.{Tight-locks-decide, Tight-locks-shown, Tight-locks-lock-value, Tight-locks-boot-write, Tight-locks-both-locked}
 use Rattle.promises.specs.Tight.{Tight-locks-set-features, Tight-locks-set-locks}
@@ -93,11 +93,14 @@ tight-slots-store = (λ κs args. tt, λ κs args r r′ e e′ p q. one p q)
 pub tight-slots-clear : Tight-slots-clear
 tight-slots-clear = (λ κs args. tt, λ κs args r r′ e e′ p q. one p q)
 
-pub tight-slots-clear-namespace : Tight-slots-clear-namespace
-tight-slots-clear-namespace = (λ κs args. tt, λ κs args r r′ e e′ p q. one p q)
-
 pub tight-slots-clear-all : Tight-slots-clear-all
 tight-slots-clear-all = (λ κs args. tt, λ κs args r r′ e e′ p q. one p q)
+
+pub tight-slots-clear-up-to : Tight-slots-clear-up-to
+tight-slots-clear-up-to = (λ κs args. tt, λ κs args r r′ e e′ p q. one p q)
+
+pub tight-slots-clear-allocated : Tight-slots-clear-allocated
+tight-slots-clear-allocated = (λ κs args. tt, λ κs args r r′ e e′ p q. one p q)
 
 pub tight-marks-some-differs : Tight-marks-some-differs
 tight-marks-some-differs = (λ κs args. tt, λ κs args r r′ e e′ p q. one p q)

@@ -20,8 +20,9 @@ use Rattle.slots.proofs.other_key_allocated.Statement as slots-other-key-alloca
 use Rattle.slots.proofs.unsound.Statement as slots-unsound
 use Rattle.slots.proofs.store.Statement as slots-store
 use Rattle.slots.proofs.clear.Statement as slots-clear
-use Rattle.slots.proofs.clear_namespace.Statement as slots-clear-namespace
 use Rattle.slots.proofs.clear_all.Statement as slots-clear-all
+use Rattle.slots.proofs.clear_up_to.Statement as slots-clear-up-to
+use Rattle.slots.proofs.clear_allocated.Statement as slots-clear-allocated
 use Rattle.marks.proofs.some_differs.Statement as marks-some-differs
 use Rattle.marks.proofs.mark.Statement as marks-mark
 use Rattle.marks.proofs.zero_namespace.Statement as marks-zero-namespace
@@ -61,8 +62,9 @@ pub record Defined (M : Type 1) : Type 2 where
   pub slots-unsound-ends : slots-unsound.statement M
   pub slots-store-ends : slots-store.statement M
   pub slots-clear-ends : slots-clear.statement M
-  pub slots-clear-namespace-ends : slots-clear-namespace.statement M
   pub slots-clear-all-ends : slots-clear-all.statement M
+  pub slots-clear-up-to-ends : slots-clear-up-to.statement M
+  pub slots-clear-allocated-ends : slots-clear-allocated.statement M
   pub marks-some-differs-ends : marks-some-differs.statement M
   pub marks-mark-ends : marks-mark.statement M
   pub marks-zero-namespace-ends : marks-zero-namespace.statement M

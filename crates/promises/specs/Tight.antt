@@ -42,8 +42,9 @@ use Rattle.slots.proofs.other_key_allocated.Reads as slots-other-key-allocated
 use Rattle.slots.proofs.unsound.Reads as slots-unsound
 use Rattle.slots.proofs.store.Reads as slots-store
 use Rattle.slots.proofs.clear.Reads as slots-clear
-use Rattle.slots.proofs.clear_namespace.Reads as slots-clear-namespace
 use Rattle.slots.proofs.clear_all.Reads as slots-clear-all
+use Rattle.slots.proofs.clear_up_to.Reads as slots-clear-up-to
+use Rattle.slots.proofs.clear_allocated.Reads as slots-clear-allocated
 use Rattle.marks.proofs.some_differs.Reads as marks-some-differs
 use Rattle.marks.proofs.mark.Reads as marks-mark
 use Rattle.marks.proofs.zero_namespace.Reads as marks-zero-namespace
@@ -135,11 +136,14 @@ Tight-slots-store = Tight {Left = List ℕ} slots-store.Asked slots-store.Learnt
 abbrev pub Tight-slots-clear : Type 0
 Tight-slots-clear = Tight {Left = List ℕ} slots-clear.Asked slots-clear.Learnt (λ κs result exit. now (exit .0))
 
-abbrev pub Tight-slots-clear-namespace : Type 0
-Tight-slots-clear-namespace = Tight {Left = List ℕ} slots-clear-namespace.Asked slots-clear-namespace.Learnt (λ κs result exit. now (exit .0))
-
 abbrev pub Tight-slots-clear-all : Type 0
 Tight-slots-clear-all = Tight {Left = List ℕ} slots-clear-all.Asked slots-clear-all.Learnt (λ κs result exit. now (exit .0))
+
+abbrev pub Tight-slots-clear-up-to : Type 0
+Tight-slots-clear-up-to = Tight {Left = List ℕ} slots-clear-up-to.Asked slots-clear-up-to.Learnt (λ κs result exit. now (exit .0))
+
+abbrev pub Tight-slots-clear-allocated : Type 0
+Tight-slots-clear-allocated = Tight {Left = List ℕ} slots-clear-allocated.Asked slots-clear-allocated.Learnt (λ κs result exit. now (exit .1 .0))
 
 abbrev pub Tight-marks-some-differs : Type 0
 Tight-marks-some-differs = Tight {Left = Bool} marks-some-differs.Asked marks-some-differs.Learnt (λ κs result exit. result)

@@ -62,10 +62,10 @@ module _ (s : State) (sound : unsound s ≡ false) where
   abbrev at : ℕ → List ℕ
   at i = cell slotWidth i (s .keys)
 
-  abbrev counted : ℕ → ℕ
+  abbrev pub counted : ℕ → ℕ
   counted i = getD (s .registers .counts) (i / tagsMost) 0
 
-  sound-at : (i : ℕ) (b : Bool) → i < slotPlaces → leb (counted i) (i % tagsMost) ≡ b → slotUnsound b (at i) ≡ false
+  pub sound-at : (i : ℕ) (b : Bool) → i < slotPlaces → leb (counted i) (i % tagsMost) ≡ b → slotUnsound b (at i) ≡ false
   sound-at i b l h =
       let n : i / tagsMost + 1 - 1 ≡ i / tagsMost = omega arith in
       let u : leb (getD (s .registers .counts) (i / tagsMost + 1 - 1) 0) (i % tagsMost) ≡ b = rw n h in

@@ -18,12 +18,12 @@ use Rattle.cells.specs.Predicates.{same}
 use Rattle.cells.proofs.CellsLaws.{length-cell, first-cell, part-end, part-cell, part-whole, cell-past, lent-length-to, copied, push, fill-all}
 use Rattle.cells.proofs.PredicatesLaws.{same-split, same-byte}
 use Rattle.rules.specs.declared.Namespace.{Namespace}
-use Rattle.rules.specs.Numbers.{tagsMost, uidMost, keySize, slotWidth, slotPlaces, cacheSize}
+use Rattle.rules.specs.Numbers.{uidMost, keySize, slotWidth, slotPlaces, cacheSize}
 use Rattle.rules.specs.State.{wrongCache, keyTag, noNamespace}
 use Rattle.rules.specs.Slots.{Contents, FitKey, placeOf, padded, slotBytes, emptied, uidLength, loaded, uidOf, keyOf}
 use Rattle.rules.specs.Sound.{afterUid}
 use Rattle.rules.proofs.SlotsLaws.{length-padded}
-use Rattle.slots.specs.Cache.{slotAt, stored, cleared, clearedNamespace, clearedAll, headSize, headOf, headBytes}
+use Rattle.slots.specs.Cache.{slotAt, stored, cleared, clearedAll, tagsUpTo, clearedUpTo, headSize, headOf, headBytes}
 
 -- ------------------------------------------------------------------------
 -- The cache at its own length: what each definition is there
@@ -56,10 +56,10 @@ module _ (keys : List ℕ) (size : length keys ≡ cacheSize) where
   unfolding cleared
   cleared-is place inside = rw (right-cache keys size, lt-ltb place slotPlaces inside)
 
-  pub cleared-namespace-is : (ns : Namespace) → noNamespace ns ≡ false
-      → clearedNamespace ns keys ≡ fill slotWidth (placeOf ns (keyTag 0)) tagsMost emptied keys
-  unfolding clearedNamespace
-  cleared-namespace-is ns is = rw (right-cache keys size, is)
+  pub cleared-up-to-is : (ns : Namespace) (count : ℕ) → noNamespace ns ≡ false
+      → clearedUpTo ns count keys ≡ fill slotWidth (placeOf ns (keyTag 0)) (tagsUpTo count) emptied keys
+  unfolding clearedUpTo
+  cleared-up-to-is ns count is = rw (right-cache keys size, is)
 
   pub cleared-all-is : clearedAll keys ≡ fill slotWidth 0 slotPlaces emptied keys
   unfolding clearedAll

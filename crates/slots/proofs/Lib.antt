@@ -1,4 +1,5 @@
 pub mod AllocatedLaws
 pub mod CacheLaws
+pub mod ClearLaws
 pub mod HeadLaws
 pub mod ScanLaws

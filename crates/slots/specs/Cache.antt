@@ -4,14 +4,14 @@
 -- Assumes nothing.
 use mathlib.Core.Bool.{Bool, false, not, _&&_, cond}
 use mathlib.Core.List.{List, [], _∷_}
-use Prim.Native.Nat.{ℕ, _+_, _/_, _%_}
+use Prim.Native.Nat.{ℕ, zero, suc, _+_, _/_, _%_}
 use lib.ListN.{length, getD}
 use lib.Dec.{eqb, leb, ltb}
 use Rattle.cells.specs.Cells.{part, cell, put, fill}
 use Rattle.cells.specs.Predicates.{same, someCell}
 use Rattle.rules.specs.declared.Namespace.{Namespace}
-use Rattle.rules.specs.Numbers.{tagsMost, uidMost, keySize, slotWidth, slotPlaces}
-use Rattle.rules.specs.State.{wrongCache, keyTag, noNamespace}
+use Rattle.rules.specs.Numbers.{namespaces, tagsMost, uidMost, keySize, slotWidth, slotPlaces}
+use Rattle.rules.specs.State.{wrongCache, namespace, keyTag, noNamespace}
 use Rattle.rules.specs.Slots.{Contents, placeOf, padded, slotBytes, emptied, keyOf}
 
 -- the slot at a place; no bytes past the last
@@ -27,11 +27,25 @@ stored place x keys = cond (fitsSlot place x keys) (put slotWidth place (slotByt
 unfoldable pub cleared : ℕ → List ℕ → List ℕ
 cleared place keys = cond (not (wrongCache keys) && ltb place slotPlaces) (put slotWidth place emptied keys) keys
 
-unfoldable pub clearedNamespace : Namespace → List ℕ → List ℕ
-clearedNamespace ns keys = cond (not (wrongCache keys) && not (noNamespace ns)) (fill slotWidth (placeOf ns (keyTag 0)) tagsMost emptied keys) keys
-
 unfoldable pub clearedAll : List ℕ → List ℕ
 clearedAll keys = cond (wrongCache keys) keys (fill slotWidth 0 slotPlaces emptied keys)
+
+-- as many tags as a count says, and at most all
+abbrev pub tagsUpTo : ℕ → ℕ
+tagsUpTo count = cond (ltb tagsMost count) tagsMost count
+
+-- the slots of a namespace up to a count. In a sound state, up to its own count, that is all of them: those behind are empty.
+unfoldable pub clearedUpTo : Namespace → ℕ → List ℕ → List ℕ
+clearedUpTo ns count keys =
+    cond (not (wrongCache keys) && not (noNamespace ns)) (fill slotWidth (placeOf ns (keyTag 0)) (tagsUpTo count) emptied keys) keys
+
+-- the slots of the first n namespaces, each up to its count; and of every namespace
+unfoldable pub clearedFirst : ℕ → List ℕ → List ℕ → List ℕ
+clearedFirst zero counts keys = keys
+clearedFirst (suc n) counts keys = clearedUpTo (namespace (suc n)) (getD counts n 0) (clearedFirst n counts keys)
+
+abbrev pub clearedAllocated : List ℕ → List ℕ → List ℕ
+clearedAllocated counts keys = clearedFirst namespaces counts keys
 
 -- a tag below its namespace's count is allocated
 abbrev pub allocated : List ℕ → ℕ → Bool

@@ -4,11 +4,12 @@ ghost use Prim.Native.Nat.{_+_, _*_, _≤_, _<_};
 ghost use lib.ListN.{length};
 ghost use Rattle.cells.specs.Cells.{cell, fill};
 ghost use Rattle.cells.specs.Predicates.{same};
-ghost use Rattle.rules.specs.Numbers.{uidMost, keySize, slotWidth, slotPlaces, cacheSize};
+ghost use Rattle.rules.specs.Numbers.{namespaces, tagsMost, uidMost, keySize, slotWidth, slotPlaces, cacheSize};
 ghost use Rattle.rules.specs.Slots.{slotBytes, emptied, uidOf, keyOf};
-ghost use Rattle.slots.specs.Cache.{headSize, headBytes};
+ghost use Rattle.slots.specs.Cache.{headSize, headBytes, tagsUpTo};
 use rules::KEY_SIZE;
 use rules::SLOT_WIDTH;
+use rules::TAGS_MOST;
 use rules::UID_MOST;
 
 // A slot's bytes before its key, its head: the KeyUID's length and the padded KeyUID.
@@ -61,4 +62,24 @@ pub(crate) fn clear_run(keys: &mut [u8], first: usize, n: usize)
     ensures { λ _. ⌜ now (keys .exit) ≡ fill slotWidth first n emptied (now (keys .entry)) ⌝ }
 {
     cells::zero_part(keys, first * SLOT_WIDTH, n * SLOT_WIDTH);
+}
+
+// As many tags as a count says, and at most all.
+fn tags_up_to(count: u8) -> usize
+    ensures { λ r. ⌜ (r ≡ tagsUpTo count) × (r ≤ tagsMost) ⌝ }
+{
+    let n = count as usize;
+    if n > TAGS_MOST {
+        return TAGS_MOST;
+    }
+    n
+}
+
+// The slots of a namespace, here counted from 0, up to a count.
+pub(crate) fn clear_first(keys: &mut [u8], ns: usize, count: u8)
+    requires { ⌜ (length (now keys) ≡ cacheSize) × (ns < namespaces) ⌝ }
+    ensures { λ _. ⌜ now (keys .exit) ≡ fill slotWidth (ns * tagsMost) (tagsUpTo count) emptied (now (keys .entry)) ⌝ }
+{
+    let n = tags_up_to(count);
+    clear_run(keys, ns * TAGS_MOST, n);
 }

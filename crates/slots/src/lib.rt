@@ -6,7 +6,7 @@ ghost use mathlib.Core.List.{[]};
 ghost use Rattle.cells.specs.Predicates.{same};
 ghost use Rattle.rules.specs.Slots.{loaded as isLoaded, uidOf};
 ghost use Rattle.rules.specs.Sound.{unsound as isUnsound};
-ghost use Rattle.slots.specs.Cache.{slotAt, otherKeyAllocated, stored, cleared, clearedNamespace, clearedAll};
+ghost use Rattle.slots.specs.Cache.{slotAt, otherKeyAllocated, stored, cleared, clearedAll, clearedUpTo, clearedAllocated};
 
 mod bytes;
 mod scan;
@@ -18,7 +18,6 @@ use rules::Namespace;
 use rules::Registers;
 use rules::SLOT_PLACES;
 use rules::SLOT_WIDTH;
-use rules::TAGS_MOST;
 use rules::UID_MOST;
 
 // Whether the slot holds a key. A place past the last slot holds none.
@@ -115,8 +114,19 @@ pub fn clear(keys: &mut [u8], place: usize)
     bytes::clear_run(keys, place, 1);
 }
 
-pub fn clear_namespace(keys: &mut [u8], ns: Namespace)
-    ensures { λ _. ⌜ now (keys .exit) ≡ clearedNamespace ns (now (keys .entry)) ⌝ }
+pub fn clear_all(keys: &mut [u8])
+    ensures { λ _. ⌜ now (keys .exit) ≡ clearedAll (now (keys .entry)) ⌝ }
+{
+    if keys.len() != CACHE_SIZE {
+        return;
+    }
+    bytes::clear_run(keys, 0, SLOT_PLACES);
+}
+
+// A namespace's slots up to a count. In a sound state, up to its own count, that empties the namespace: no other slot is touched, so that
+// what it costs does not grow with the places that are not allocated (proofs/ClearLaws.antt).
+pub fn clear_up_to(keys: &mut [u8], ns: Namespace, count: u8)
+    ensures { λ _. ⌜ now (keys .exit) ≡ clearedUpTo ns count (now (keys .entry)) ⌝ }
 {
     if keys.len() != CACHE_SIZE {
         return;
@@ -128,15 +138,19 @@ pub fn clear_namespace(keys: &mut [u8], ns: Namespace)
     if n > NAMESPACES {
         return;
     }
-    let first = (n - 1) * TAGS_MOST;
-    bytes::clear_run(keys, first, TAGS_MOST);
+    bytes::clear_first(keys, n - 1, count);
 }
 
-pub fn clear_all(keys: &mut [u8])
-    ensures { λ _. ⌜ now (keys .exit) ≡ clearedAll (now (keys .entry)) ⌝ }
+// The same of every namespace, each up to its count: in a sound state all slots.
+pub fn clear_allocated(counts: [u8; NAMESPACES], keys: &mut [u8])
+    ensures { λ _. ⌜ now (keys .exit) ≡ clearedAllocated counts (now (keys .entry)) ⌝ }
 {
     if keys.len() != CACHE_SIZE {
         return;
     }
-    bytes::clear_run(keys, 0, SLOT_PLACES);
+    let mut i = 0;
+    while i < NAMESPACES {
+        bytes::clear_first(keys, i, counts[i]);
+        i += 1;
+    }
 }

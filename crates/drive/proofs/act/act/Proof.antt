@@ -27,6 +27,12 @@ replace-requires c κs =
 clear-one-requires : tie.Need-clear-one-requires
 clear-one-requires c κs = let s : tie.Start = search in sound s
 
+clear-all-requires : tie.Need-clear-all-requires
+clear-all-requires c κs = let s : tie.Start = search in sound s
+
+reset-requires : tie.Need-reset-requires
+reset-requires c κs = let s : tie.Start = search in sound s
+
 returns : tie.Need-returns
 unfolding frameRule
 returns c =
@@ -124,8 +130,10 @@ act-spec =
     (λ c. search needs) (λ c κs. search needs) (λ c. search needs) (λ c κs. search needs) (λ c. search needs) load-requires
     (λ c. search needs) replace-requires
     (λ c. search needs) clear-one-requires
-    (λ c. search needs) (λ c κs. search needs) (λ c. search needs) (λ c κs. search needs) (λ c. search needs) (λ c κs. search needs)
-    (λ c. search needs) (λ c κs. search needs) (λ c. search needs) (λ c κs. search needs) (λ c. search needs) (λ c κs. search needs)
+    (λ c. search needs) clear-all-requires
+    (λ c. search needs) (λ c κs. search needs) (λ c. search needs) (λ c κs. search needs)
+    (λ c. search needs) (λ c κs. search needs) (λ c. search needs) (λ c κs. search needs)
+    (λ c. search needs) reset-requires
     (λ c. search needs) (λ c κs. search needs) (λ c. search needs) (λ c κs. search needs) returns
     (λ c. search needs) (λ c. search needs) returns-2
     (λ c. search needs) returns-3

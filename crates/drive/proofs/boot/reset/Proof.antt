@@ -3,10 +3,12 @@
 use borrow.Author.Needs.{needs}
 use native.Mathlib.Omega.{arith}
 use mathlib.Core.Path.{_≡_, _∙_}
+use mathlib.Core.List.{[]}
 use borrow.Author.Tests.{lt-ltb}
 use Rattle.rules.specs.Effects.{emptyAllSlots}
 use Rattle.rules.specs.Order.{reset}
-use Rattle.slots.proofs.CacheLaws.{cleared-all-is}
+use Rattle.slots.proofs.ClearLaws.{sound-clear-allocated}
+use Rattle.drive.specs.Acting.{state}
 use Rattle.drive.proofs.boot.reset.Statement.{statement}
 use Rattle.drive.proofs.boot.reset.Tie as tie
 
@@ -31,11 +33,11 @@ returns-3 c =
     λ marks.
     let s : tie.Start = search in
     let a = s .args in
-    let y : tie.After-clear-all = search in
+    let y : tie.After-clear-allocated = search in
     let b : tie.After-both-locked = search in
     let w : tie.After-with-locks = search in
     let one : a .level ≡ 1 = omega arith in
-    let emptied = y .clear-all .ensures ∙ cleared-all-is (a .keys .now) (s .pre) in
+    let emptied = y .clear-allocated .ensures ∙ sound-clear-allocated (state (a .registers) (a .keys .now) []) (s .pre) in
     rw (c .done2 .ensures, w .with-locks .ensures, b .both-locked .ensures, emptied, one)
 
 pub reset-spec : {M : Type 1} → statement M

@@ -1,14 +1,15 @@
 -- `clear_all` meets its contract: each return is one of the checks. First what is known where a check has passed.
 -- Assumes nothing.
 use borrow.Author.Needs.{needs}
-use mathlib.Core.Path.{_≡_, sym, _∙_}
+use mathlib.Core.Path.{_≡_, sym, ap, _∙_}
 use mathlib.Core.Bool.{true, false}
 use mathlib.Core.List.{[]}
 use Rattle.rules.specs.State.{noNamespace, managed}
 use Rattle.rules.specs.Effects.{emptySlots}
 use Rattle.rules.specs.Order.{clearAll}
 use Rattle.rules.proofs.StateLaws.{is-namespace}
-use Rattle.slots.proofs.CacheLaws.{cleared-namespace-is}
+use Rattle.slots.specs.Cache.{clearedUpTo}
+use Rattle.slots.proofs.ClearLaws.{sound-clear}
 use Rattle.drive.specs.Acting.{state}
 use Rattle.drive.proofs.KeysLaws.{managed-by, unmanaged-by}
 use Rattle.drive.proofs.keys.clear_all.Statement.{statement}
@@ -52,11 +53,14 @@ returns-3 : tie.Need-returns-3
 unfolding clearAll emptySlots
 returns-3 c =
     λ marks.
-    let y : tie.After-clear-namespace = search in
+    let y : tie.After-clear-up-to = search in
+    let k : tie.After-count = search in
     let g : tie.Else2 = search in
     let e : tie.Else1 = search in
     let s : tie.Start = search in
-    let emptied = y .clear-namespace .ensures ∙ cleared-namespace-is (s .args .keys .now) (s .pre) (s .args .ns) (named e) in
+    let a = s .args in
+    let counted = ap (λ n. clearedUpTo (a .ns) n (a .keys .now)) (k .count .ensures) in
+    let emptied = y .clear-up-to .ensures ∙ counted ∙ sound-clear (state (a .registers) (a .keys .now) []) (s .pre) (a .ns) (named e) in
     rw (c .done .ensures, emptied, named e, held g)
 
 pub clear-all-spec : {M : Type 1} → statement M

@@ -1,14 +1,15 @@
 -- `release` meets its contract: each return is one of the checks. First what is known where a check has passed.
 -- Assumes nothing.
 use borrow.Author.Needs.{needs}
-use mathlib.Core.Path.{_≡_, sym, _∙_}
+use mathlib.Core.Path.{_≡_, sym, ap, _∙_}
 use mathlib.Core.Bool.{true, false}
 use mathlib.Core.List.{[]}
 use Rattle.rules.specs.State.{noNamespace, managed}
 use Rattle.rules.specs.Effects.{setCount, emptySlots, zeroMarks}
 use Rattle.rules.specs.Order.{release}
 use Rattle.rules.proofs.StateLaws.{is-namespace}
-use Rattle.slots.proofs.CacheLaws.{cleared-namespace-is}
+use Rattle.slots.specs.Cache.{clearedUpTo}
+use Rattle.slots.proofs.ClearLaws.{sound-clear}
 use Rattle.drive.specs.Acting.{state}
 use Rattle.drive.proofs.KeysLaws.{managed-by, unmanaged-by, zeroed-is}
 use Rattle.drive.proofs.keys.release.Statement.{statement}
@@ -56,12 +57,14 @@ unfolding release emptySlots zeroMarks setCount
 returns-3 c =
     let w : tie.After-with-count = search in
     let z : tie.After-zero-namespace = search in
-    let y : tie.After-clear-namespace = search in
+    let y : tie.After-clear-up-to = search in
+    let k : tie.After-count = search in
     let g : tie.Else2 = search in
     let e : tie.Else1 = search in
     let s : tie.Start = search in
     let a = s .args in
-    let emptied = y .clear-namespace .ensures ∙ cleared-namespace-is (a .keys .now) (s .pre .sized .cache) (a .ns) (named e) in
+    let counted = ap (λ n. clearedUpTo (a .ns) n (a .keys .now)) (k .count .ensures) in
+    let emptied = y .clear-up-to .ensures ∙ counted ∙ sound-clear (state (a .registers) (a .keys .now) (a .marks .now)) (s .pre .sound) (a .ns) (named e) in
     let unwritten = z .zero-namespace .ensures ∙ zeroed-is (a .marks .now) (s .pre .sized .store) (a .ns) (named e) in
     rw (c .done .ensures, w .with-count .ensures, unwritten, emptied, named e, held g)
 
