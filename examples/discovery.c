@@ -15,8 +15,8 @@ struct known { const char *what; int place; uint32_t awaited; };
 
 static const struct known numbers[] = {
     {"bytes in a KeyUID, at most (0: any)", TUFFALEEN_MAXIMUM_KEY_UID_LENGTH, 16},
-    {"key tags in all", TUFFALEEN_TOTAL_NUMBER_OF_KEY_TAGS, 64},
-    {"key tags in a namespace, at most", TUFFALEEN_MAXIMUM_KEY_TAGS_PER_NAMESPACE, 32},
+    {"key tags in all", TUFFALEEN_TOTAL_NUMBER_OF_KEY_TAGS, 256},
+    {"key tags in a namespace, at most", TUFFALEEN_MAXIMUM_KEY_TAGS_PER_NAMESPACE, 128},
 };
 
 static const struct known abilities[] = {

@@ -52,15 +52,20 @@ extern "C" {
 #endif
 
 /*
- * Counts up whenever a size, an offset or the meaning of a byte of image or mark store changes (2: a mark holds the
- * whole KeyUID, 17 bytes; 1 held 9, and its marks cannot be made into these). Store it beside the
- * marks and tag counts, and hand these to no library of another version. The library cannot check that: no byte of the
- * image or of the store holds the version.
+ * Counts up whenever a size, an offset or the meaning of a byte of image or mark store changes:
+ *
+ *   2   a mark holds the whole KeyUID, 17 bytes; 1 held 9, and its marks cannot be made into these.
+ *   3   an image has 128 slots for each namespace; 2 had 32. Marks and tag counts are as in 2.
+ *
+ * Store it beside the marks and tag counts, and hand these to no library of another version. One exception: a library
+ * of 3 takes those that were stored under 2, for it allows every tag count and every sum that 2 allowed. The way back
+ * is closed: 2 refuses a tag count above 32 or a sum above 64 as unsound. The library cannot check the version: no
+ * byte of the image or of the store holds it.
  */
-#define TUFFALEEN_LAYOUT_VERSION 2
+#define TUFFALEEN_LAYOUT_VERSION 3
 
 /* Sizes in bytes. */
-#define TUFFALEEN_IMAGE_BYTES 6278   /* an image, exactly */
+#define TUFFALEEN_IMAGE_BYTES 25094  /* an image, exactly */
 #define TUFFALEEN_MARKS_BYTES 17408  /* a mark store, exactly */
 #define TUFFALEEN_ANSWER_BYTES 13    /* the output that a call must have room for, for each line but the line 0C */
 #define TUFFALEEN_DISCOVERY_BYTES 229 /* the same for the line 0C, which asks for discovery */
@@ -73,9 +78,9 @@ extern "C" {
  */
 #define TUFFALEEN_COUNTS_AT 0        /* 4 bytes: tag counts of namespaces 1 to 4, 0 if not managed */
 #define TUFFALEEN_LOCKS_AT 4         /* 2 bytes: the states of boot partitions 0 and 1, as below */
-#define TUFFALEEN_SLOTS_AT 6         /* 128 slots, 32 for each namespace, managed or not */
+#define TUFFALEEN_SLOTS_AT 6         /* 512 slots, 128 for each namespace, managed or not */
 #define TUFFALEEN_SLOT_BYTES 49      /* KeyUID length 1 (0 if empty), KeyUID 16, key 32 */
-#define TUFFALEEN_SLOT_AT(ns, tag) (TUFFALEEN_SLOTS_AT + (((ns) - 1) * 32 + (tag)) * TUFFALEEN_SLOT_BYTES)
+#define TUFFALEEN_SLOT_AT(ns, tag) (TUFFALEEN_SLOTS_AT + (((ns) - 1) * 128 + (tag)) * TUFFALEEN_SLOT_BYTES)
 
 #define TUFFALEEN_WRITE_UNLOCKED 1
 #define TUFFALEEN_WRITE_LOCKED 2
@@ -105,7 +110,7 @@ enum tuffaleen_answer {
     TUFFALEEN_KEY_UID_LENGTH = 0x0704,      /* KeyUID length 0 or above 16 */
     TUFFALEEN_ALREADY_MANAGED = 0x0705,
     TUFFALEEN_NOT_MANAGED = 0x0706,
-    TUFFALEEN_TAG_COUNT = 0x0707,           /* tag count 0 or above 32 */
+    TUFFALEEN_TAG_COUNT = 0x0707,           /* tag count 0 or above 128 */
     TUFFALEEN_POOL_TOO_SMALL = 0x0708,
     TUFFALEEN_SLOT_OCCUPIED = 0x0709,
     TUFFALEEN_SLOT_EMPTY = 0x070A,
@@ -190,8 +195,8 @@ uint16_t tuffaleen_start(uint8_t *image, size_t image_len, uint8_t *marks, size_
  *
  *   TUFFALEEN_OUTPUT_TOO_SHORT   out_len below 229 for the line 0C, below 13 for any other
  *   TUFFALEEN_STORE_LENGTH       marks_len other than 17408
- *   TUFFALEEN_UNSOUND_STATE      image_len other than 6278; a lock byte outside 1 to 3; a tag count above 32, a sum
- *                                of them above 64; a slot that is loaded at an unallocated tag, has a KeyUID length
+ *   TUFFALEEN_UNSOUND_STATE      image_len other than 25094; a lock byte outside 1 to 3; a tag count above 128, a sum
+ *                                of them above 256; a slot that is loaded at an unallocated tag, has a KeyUID length
  *                                above 16, or has a byte other than zero after its KeyUID or, if empty, anywhere
  */
 uint16_t tuffaleen_line(uint8_t *image, size_t image_len, uint8_t *marks, size_t marks_len,

@@ -72,7 +72,8 @@ static void manage(int ns, int tags)
     CHECK(answer == TUFFALEEN_DONE, "%d tags for namespace %d: %04X", tags, ns, answer);
 }
 
-/* Loads a KeyUID of 1 to 16 bytes that no other slot gets, and tells the bytes that its slot must have. */
+/* Loads a KeyUID of 1 to 16 bytes that no other slot gets, and tells the bytes that its slot must have. Tags that get
+ * one length are 16 apart. */
 static void load(int ns, int tag, uint8_t slot[49])
 {
     int len = tag % 16 + 1;
@@ -80,9 +81,9 @@ static void load(int ns, int tag, uint8_t slot[49])
     memset(slot, 0, 49);
     slot[0] = len;
     for (int i = 0; i < len; i++)
-        slot[1 + i] = 32 * ns + tag + i;
+        slot[1 + i] = ns + tag + i;
     for (int i = 0; i < 32; i++)
-        slot[17 + i] = 255 - 32 * ns - tag - 3 * i;
+        slot[17 + i] = 255 - ns - tag - 3 * i;
     memcpy(frame + 5, slot + 1, len);
     memcpy(frame + 5 + len, slot + 17, 32);
     uint16_t answer = ask_frame(frame, 37 + len);
@@ -238,8 +239,9 @@ static int check_slots(void)
     int seen = 0;
     for (int ns = 1; ns <= 4; ns++) {
         start();
-        manage(ns, 32);
-        for (int tag = 0; tag < 32; tag++) {
+        manage(ns, 128);
+        manage(ns % 4 + 1, 128);
+        for (int tag = 0; tag < 128; tag++) {
             uint8_t slot[49];
             await_as_now();
             load(ns, tag, slot);
@@ -259,11 +261,11 @@ static void check_cleared_slots(void)
     for (int ns = 1; ns <= 4; ns++) {
         uint8_t slot[49];
         start();
-        manage(ns, 32);
+        manage(ns, 128);
         await_as_now();
-        for (int tag = 0; tag < 32; tag++)
+        for (int tag = 0; tag < 128; tag++)
             load(ns, tag, slot);
-        for (int tag = 0; tag < 32; tag++)
+        for (int tag = 0; tag < 128; tag++)
             ask_frame((uint8_t[]){0x05, ns, tag, 0}, 4);
         CHECK(as_awaited(), "the emptied slots of namespace %d", ns);
     }
@@ -302,13 +304,14 @@ static int check_marks(void)
     return seen;
 }
 
-/* One byte laid in an image of 32 and 31 tags, with slot 0 of namespace 1 loaded and all others empty. */
+/* One byte laid in an image of 128 and 127 tags, with slot 0 of namespace 1 loaded and all others empty. */
 static const struct { size_t at; uint8_t byte; uint16_t answer; } laid[] = {
-    {TUFFALEEN_COUNTS_AT + 0, 33, TUFFALEEN_UNSOUND_STATE},
+    {TUFFALEEN_COUNTS_AT + 0, 129, TUFFALEEN_UNSOUND_STATE},
     {TUFFALEEN_COUNTS_AT + 0, 0, TUFFALEEN_UNSOUND_STATE},
-    {TUFFALEEN_COUNTS_AT + 1, 32, TUFFALEEN_DONE},
+    {TUFFALEEN_COUNTS_AT + 1, 128, TUFFALEEN_DONE},
     {TUFFALEEN_COUNTS_AT + 2, 1, TUFFALEEN_DONE},
     {TUFFALEEN_COUNTS_AT + 3, 2, TUFFALEEN_UNSOUND_STATE},
+    {TUFFALEEN_COUNTS_AT + 3, 128, TUFFALEEN_UNSOUND_STATE},
     {TUFFALEEN_LOCKS_AT + 0, 0, TUFFALEEN_UNSOUND_STATE},
     {TUFFALEEN_LOCKS_AT + 1, 4, TUFFALEEN_UNSOUND_STATE},
     {TUFFALEEN_SLOT_AT(1, 0), 16, TUFFALEEN_DONE},
@@ -316,8 +319,11 @@ static const struct { size_t at; uint8_t byte; uint16_t answer; } laid[] = {
     {TUFFALEEN_SLOT_AT(1, 0) + 1, 1, TUFFALEEN_DONE},
     {TUFFALEEN_SLOT_AT(1, 0) + 2, 1, TUFFALEEN_UNSOUND_STATE},
     {TUFFALEEN_SLOT_AT(1, 1) + 48, 1, TUFFALEEN_UNSOUND_STATE},
-    {TUFFALEEN_SLOT_AT(2, 30), 1, TUFFALEEN_DONE},
-    {TUFFALEEN_SLOT_AT(2, 31), 1, TUFFALEEN_UNSOUND_STATE},
+    {TUFFALEEN_SLOT_AT(1, 127) + 1, 1, TUFFALEEN_UNSOUND_STATE},
+    {TUFFALEEN_SLOT_AT(2, 126), 1, TUFFALEEN_DONE},
+    {TUFFALEEN_SLOT_AT(2, 127), 1, TUFFALEEN_UNSOUND_STATE},
+    {TUFFALEEN_SLOT_AT(4, 127), 1, TUFFALEEN_UNSOUND_STATE},
+    {TUFFALEEN_SLOT_AT(4, 127) + 48, 1, TUFFALEEN_UNSOUND_STATE},
 };
 
 static void check_soundness(void)
@@ -325,8 +331,8 @@ static void check_soundness(void)
     for (size_t i = 0; i < sizeof laid / sizeof *laid; i++) {
         uint8_t slot[49];
         start();
-        manage(1, 32);
-        manage(2, 31);
+        manage(1, 128);
+        manage(2, 127);
         load(1, 0, slot);
         lay(image, laid[i].at, &laid[i].byte, 1);
         uint16_t answer = ask("0B00");
@@ -337,7 +343,7 @@ static void check_soundness(void)
 
 /* Asked before each line below. Of three tags in namespace 1 two are loaded; blocks 0 to 9 are written under AA. */
 static const char *const before[] = {
-    "010103", "010220", "0301000001AA" KEY_1, "0301010001BB" KEY_2, IO("01", "00", "09", "00"), "0803000000",
+    "010103", "010280", "0301000001AA" KEY_1, "0301010001BB" KEY_2, IO("01", "00", "09", "00"), "0803000000",
 };
 
 #define OF(name) #name, name
@@ -359,7 +365,7 @@ static const struct { const char *name; uint16_t number; const char *digits, *li
     {OF(TUFFALEEN_ALREADY_MANAGED), "0705", "010101"},
     {OF(TUFFALEEN_NOT_MANAGED), "0706", "0603"},
     {OF(TUFFALEEN_TAG_COUNT), "0707", "010300"},
-    {OF(TUFFALEEN_POOL_TOO_SMALL), "0708", "010320"},
+    {OF(TUFFALEEN_POOL_TOO_SMALL), "0708", "010380"},
     {OF(TUFFALEEN_SLOT_OCCUPIED), "0709", "0301000001BB" KEY_2},
     {OF(TUFFALEEN_SLOT_EMPTY), "070A", "05010200"},
     {OF(TUFFALEEN_OLD_KEY_UID), "070B", "0401000001BB01CC" KEY_1},
@@ -465,8 +471,8 @@ static const struct { int place; uint32_t number; } own_fields[] = {
     {TUFFALEEN_SHARED_TWEAK_KEY_REQUIRED, 1},
     {TUFFALEEN_ENABLED, 1},
     {TUFFALEEN_MAXIMUM_KEY_UID_LENGTH, 16},
-    {TUFFALEEN_TOTAL_NUMBER_OF_KEY_TAGS, 64},
-    {TUFFALEEN_MAXIMUM_KEY_TAGS_PER_NAMESPACE, 32},
+    {TUFFALEEN_TOTAL_NUMBER_OF_KEY_TAGS, 256},
+    {TUFFALEEN_MAXIMUM_KEY_TAGS_PER_NAMESPACE, 128},
 };
 
 /* The bits of a response that are some field's, and the places that were awaited with a number other than 0. */
@@ -653,13 +659,36 @@ static int check_no_responses(void)
     return 1;
 }
 
+/* What version 2 stored, by its own numbers: tag counts of 32, 31, 0 and 1, and AA as the KeyUID of namespace 4, block
+ * 255. Made anew from that after a loss of power, the drive is sound and tells the block as written under AA. */
+static void check_stored_by_2(void)
+{
+    static const uint8_t counts[] = {32, 31, 0, 1}, mark[17] = {1, 0xAA};
+    static const struct { const char *load; uint16_t answer; } keys[] = {
+        {"0304000001BB" KEY_2, TUFFALEEN_WRONG_KEY},
+        {"0304000001AA" KEY_1, TUFFALEEN_DONE},
+    };
+    for (size_t i = 0; i < sizeof keys / sizeof *keys; i++) {
+        uint8_t frame[65] = {0x07, 0x02};
+        frame[5] = 4;
+        frame[41] = 255;
+        frame[51] = 1;
+        start();
+        lay(image, TUFFALEEN_COUNTS_AT, counts, sizeof counts);
+        lay(marks, ((4 - 1) * 256 + 255) * 17, mark, sizeof mark);
+        uint16_t loaded = ask(keys[i].load), answer = ask_frame(frame, sizeof frame);
+        CHECK(loaded == TUFFALEEN_DONE && answer == keys[i].answer, "what version 2 stored: %04X, %04X", loaded,
+              answer);
+    }
+}
+
 /* Whoever changes the layout comes by here, and counts the version up. */
 static void check_version(void)
 {
-    int as_in_2 = TUFFALEEN_IMAGE_BYTES == 6278 && TUFFALEEN_COUNTS_AT == 0 && TUFFALEEN_LOCKS_AT == 4 &&
-                  TUFFALEEN_SLOTS_AT == 6 && TUFFALEEN_SLOT_BYTES == 49 && TUFFALEEN_MARKS_BYTES == 17408 &&
-                  TUFFALEEN_MARK_BYTES == 17;
-    CHECK(as_in_2 == (TUFFALEEN_LAYOUT_VERSION == 2), "layout version %d", TUFFALEEN_LAYOUT_VERSION);
+    int stored_as_in_2 = TUFFALEEN_COUNTS_AT == 0 && TUFFALEEN_MARKS_BYTES == 17408 && TUFFALEEN_MARK_BYTES == 17;
+    int as_in_3 = stored_as_in_2 && TUFFALEEN_IMAGE_BYTES == 25094 && TUFFALEEN_LOCKS_AT == 4 &&
+                  TUFFALEEN_SLOTS_AT == 6 && TUFFALEEN_SLOT_BYTES == 49 && TUFFALEEN_SLOT_AT(2, 0) == 6 + 128 * 49;
+    CHECK(as_in_3 == (TUFFALEEN_LAYOUT_VERSION == 3), "layout version %d", TUFFALEEN_LAYOUT_VERSION);
 }
 
 int main(void)
@@ -682,6 +711,7 @@ int main(void)
         check_cleared_slots();
         written_marks = check_marks();
         check_soundness();
+        check_stored_by_2();
         check_own_response();
         names = check_fields();
         for (int off = -1; off <= 1; off++) {

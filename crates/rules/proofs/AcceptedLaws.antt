@@ -225,7 +225,7 @@ module _ (s : State) (sized : Sized s) (sound : unsound s ≡ false) where
     count-effect discovery p = refl
     count-effect unknown p = refl
 
-  -- the counts as a list: each at most 32, at most 64 together
+  -- the counts as a list: each at most what a namespace holds, together at most the pool
   abbrev Counted : List ℕ → Type 0
   Counted counts = (someAbove tagsMost counts ≡ false) × (total counts ≤ poolSlots)
 

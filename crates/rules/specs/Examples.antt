@@ -73,15 +73,15 @@ discoveryAnswer =
     ⁀ "0000000000000000000000000000000000000000000000000000000000000000"
     ⁀ "0001100C000000000000000000000000"
     ⁀ "0305102C0000000000000000000000000D001000000000000000000000000000"
-    ⁀ "00000000000000400020000000000000"
+    ⁀ "00000000000001000080000000000000"
 
 unfoldable pub table : List (List Entry)
 table =
-    -- P1: tag count 32 accepted, 33 refused
-    ("010120" answers "0000" ∷ [])
-    ∷ ("010121" answers "0707" ∷ [])
-    -- P2: 32 and 32 managed, a third 1 gets 07 08; release one, it is accepted
-    ∷ ("010120" answers "0000" ∷ "010220" answers "0000" ∷ "010301" answers "0708" ∷ "0201" answers "0000" ∷ "010301" answers "0000" ∷ [])
+    -- P1: tag count 128 accepted, 129 refused
+    ("010180" answers "0000" ∷ [])
+    ∷ ("010181" answers "0707" ∷ [])
+    -- P2: 128 and 128 managed, a third 1 gets 07 08; release one, it is accepted
+    ∷ ("010180" answers "0000" ∷ "010280" answers "0000" ∷ "010301" answers "0708" ∷ "0201" answers "0000" ∷ "010301" answers "0000" ∷ [])
     -- P3: block 255, count field 0 passes; count field 1 gets 00 80
     ∷ (command "02" "01000000" "FF00000000000000" "0000" "0000" answers "0000"
     ∷ command "02" "01000000" "FF00000000000000" "0100" "0000" answers "0080" ∷ [])

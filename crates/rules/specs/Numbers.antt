@@ -10,12 +10,12 @@ namespaces = 4
 abbrev pub blocksEach : ℕ
 blocksEach = 256
 
--- 64 slots in one pool; a managed namespace holds 1 to 32 of them
+-- 256 slots in one pool; a managed namespace holds 1 to 128 of them
 abbrev pub poolSlots : ℕ
-poolSlots = 64
+poolSlots = 256
 
 abbrev pub tagsMost : ℕ
-tagsMost = 32
+tagsMost = 128
 
 -- KeyUID: 1 to 16 bytes. Key: exactly 32 bytes.
 abbrev pub uidMost : ℕ

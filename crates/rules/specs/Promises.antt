@@ -281,7 +281,7 @@ module _ (Answers : OfAnswers) where
       → accepted answer ≡ true
       → holds ns tag h ≡ nothing
 
-  -- 07 08 exactly when the managed namespaces' tag counts, plus this one, exceed 64; the checks before it pass.
+  -- 07 08 exactly when the managed namespaces' tag counts, plus this one, exceed 256; the checks before it pass.
   abbrev pub PoolTooSmallWhen : Type 0
   PoolTooSmallWhen =
       (h : List Event) (s : State) (line : List ℕ) (answer : Answer) → Answers h s line answer

@@ -5,9 +5,9 @@ pub const NAMESPACES: usize = 4;
 
 pub const BLOCKS_EACH: usize = 256;
 
-pub const POOL_SLOTS: usize = 64;
+pub const POOL_SLOTS: usize = 256;
 
-pub const TAGS_MOST: usize = 32;
+pub const TAGS_MOST: usize = 128;
 
 pub const UID_MOST: usize = 16;
 

@@ -72,7 +72,7 @@ impl Rule {
             Rule::Number if met(status::OLD_KEY_UID) => outcome.number = status::OTHER_KEY,
             Rule::Written if met(status::UNSOUND) => outcome.written = 5,
             Rule::Lines if open => outcome.lines -= 1,
-            Rule::Image if met(status::OCCUPIED) => arena.lend(lengths).image[4000] ^= 1,
+            Rule::Image if met(status::OCCUPIED) => arena.lend(lengths).image[25_000] ^= 1,
             Rule::Marks if met(status::WRONG_KEY) => arena.lend(lengths).marks[4000] ^= 1,
             Rule::Text if met(status::TAG_COUNT) => arena.lend(lengths).text[0] ^= 1,
             Rule::Output if met(status::BLOCK_RANGE) => arena.lend(lengths).out[12] ^= 1,

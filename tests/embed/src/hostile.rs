@@ -73,20 +73,37 @@ fn random_digits(rng: &mut Rng, line: &mut Vec<u8>) {
 /// A sound image and any marks, mostly of the universe's KeyUIDs.
 pub fn random_state(rng: &mut Rng, image: &mut [u8], marks: &mut [u8]) {
     image.fill(0);
-    let mut left = POOL;
-    for count in &mut image[..NAMESPACES] {
-        *count = rng.below(left.min(TAGS) + 1) as u8;
-        left -= usize::from(*count);
-    }
+    random_counts(rng, &mut image[..NAMESPACES]);
+    // With most slots loaded, most KeyUIDs have two keys.
+    let turns = rng.pick(&[1, 4, 16]);
     for lock in &mut image[NAMESPACES..NAMESPACES + 2] {
         *lock = rng.pick(&[1, 2, 3]);
     }
     let (head, slots) = image.split_at_mut(NAMESPACES + 2);
     for (count, slots) in head.iter().zip(slots.chunks_exact_mut(TAGS * SLOT)) {
         let allocated = &mut slots[..usize::from(*count) * SLOT];
-        allocated.chunks_exact_mut(SLOT).for_each(|slot| random_slot(rng, slot));
+        for slot in allocated.chunks_exact_mut(SLOT) {
+            if rng.once_in(turns) {
+                random_slot(rng, slot);
+            }
+        }
     }
     marks.chunks_exact_mut(MARK).for_each(|mark| random_mark(rng, mark));
+}
+
+/// From any namespace on, each count up to the most that it can be; often that, or one less.
+fn random_counts(rng: &mut Rng, counts: &mut [u8]) {
+    let (mut left, first) = (POOL, rng.below(NAMESPACES));
+    for turn in 0..NAMESPACES {
+        let most = left.min(TAGS);
+        let count = match rng.below(8) {
+            0 | 1 => most,
+            2 => most.saturating_sub(1),
+            _ => rng.below(most + 1),
+        };
+        counts[(first + turn) % NAMESPACES] = count as u8;
+        left -= count;
+    }
 }
 
 fn random_slot(rng: &mut Rng, slot: &mut [u8]) {
@@ -127,7 +144,7 @@ fn random_mark(rng: &mut Rng, mark: &mut [u8]) {
 
 /// A place in an image and a value for it; mostly where soundness looks.
 pub fn damage_image(rng: &mut Rng, image: &mut [u8]) {
-    let slot = NAMESPACES + 2 + rng.below(NAMESPACES * TAGS) * SLOT;
+    let slot = damaged_slot(rng, image);
     let at = match rng.below(4) {
         0 => rng.below(NAMESPACES + 2),
         1 => slot,
@@ -136,10 +153,23 @@ pub fn damage_image(rng: &mut Rng, image: &mut [u8]) {
     };
     image[at] = match rng.below(4) {
         0 => rng.byte(),
-        1 => rng.pick(&[0, 1, 16, 17, 32, 33, 255]),
+        1 => rng.pick(&[0, 1, 16, 17, 127, 128, 129, 255]),
         2 => image[at].wrapping_add(1),
         _ => image[at] ^ 1 << rng.below(8),
     };
+}
+
+/// Where a slot starts: any, the last allocated, the one behind it, or the last of a namespace.
+fn damaged_slot(rng: &mut Rng, image: &[u8]) -> usize {
+    let index = rng.below(NAMESPACES);
+    let count = usize::from(image[index]);
+    let tag = match rng.below(8) {
+        0 => count.saturating_sub(1),
+        1 => count,
+        2 => TAGS - 1,
+        _ => rng.below(TAGS),
+    };
+    NAMESPACES + 2 + (index * TAGS + tag.min(TAGS - 1)) * SLOT
 }
 
 pub fn damage_marks(rng: &mut Rng, marks: &mut [u8]) {

@@ -78,21 +78,20 @@ fn asked(words: &[String]) -> Option<Asked> {
     Some(Asked { calls: calls.parse().ok()?, seed: seed.parse().ok()?, broken })
 }
 
-/// The sweeps, then walks and reads of at least as many calls as were asked.
+/// What can be gone through from end to end, then walks and reads of at least as many calls as were
+/// asked.
 fn run(asked: &Asked, tally: &mut Tally) -> Result<(), Difference> {
     let mut rng = Rng::new(asked.seed);
+    let mut reads = Reads::new(rng.word(), asked.broken);
     let mut sweeps = Sweeps::new(rng.word(), asked.broken);
-    let swept = sweeps.run();
-    tally.add(&sweeps.pair.tally);
-    swept?;
     let mut by_line = LineWalk::new(rng.word(), asked.broken);
     let mut by_text = TextWalk::new(rng.word(), asked.broken);
-    let mut reads = Reads::new(rng.word(), asked.broken);
-    let mut walked = reads.run();
+    // The reads first: they take less time.
+    let mut done = reads.run().and_then(|()| sweeps.run());
     let before = reads.reader.tally.calls;
     let mut calls = 0;
-    while walked.is_ok() && calls < asked.calls {
-        walked = match rng.below(TURNS) {
+    while done.is_ok() && calls < asked.calls {
+        done = match rng.below(TURNS) {
             0 => by_text.step(),
             1..=READS => reads.step(),
             _ => by_line.step(),
@@ -100,8 +99,9 @@ fn run(asked: &Asked, tally: &mut Tally) -> Result<(), Difference> {
         let read = reads.reader.tally.calls - before;
         calls = by_line.pair.tally.calls + by_text.pair.tally.calls + read;
     }
+    sweeps.add_to(tally);
     tally.add(&by_line.pair.tally);
     tally.add(&by_text.pair.tally);
     tally.add(&reads.reader.tally);
-    walked
+    done
 }

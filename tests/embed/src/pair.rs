@@ -69,6 +69,16 @@ impl Pair {
         copy.marks.copy_from_slice(lent.marks);
     }
 
+    /// Lays a byte in both images.
+    pub fn lay_in_image(&mut self, at: usize, byte: u8) {
+        self.each(|arena, rooms| arena.lend(rooms).image[at] = byte);
+    }
+
+    /// Lays a byte in both stores.
+    pub fn lay_in_marks(&mut self, at: usize, byte: u8) {
+        self.each(|arena, rooms| arena.lend(rooms).marks[at] = byte);
+    }
+
     pub fn image(&self) -> &[u8] {
         self.model.image(IMAGE)
     }

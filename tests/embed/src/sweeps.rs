@@ -12,8 +12,11 @@ use crate::broken::Rule;
 use crate::hostile::random_state;
 use crate::oracle::Function;
 use crate::pair::{Difference, Pair, State};
+use crate::tally::Tally;
 
 const NEAR: usize = 64;
+/// The image of layout version 2, which had 32 slots for each namespace.
+const OLD_IMAGE: usize = 6278;
 /// The store of layout version 1, whose marks had 9 bytes.
 const OLD_STORE: usize = 9216;
 
@@ -32,7 +35,9 @@ const TEXTS: [&str; 10] = [
 ];
 
 pub struct Sweeps {
-    pub pair: Pair,
+    pair: Pair,
+    /// With room for image and store of twice their lengths.
+    wide: Pair,
     rng: Rng,
     /// Where most sweeps start from.
     used: State,
@@ -42,8 +47,15 @@ type Done = Result<(), Difference>;
 
 impl Sweeps {
     pub fn new(seed: u64, broken: Option<Rule>) -> Sweeps {
-        let rooms = Lengths { image: 2 * IMAGE, marks: 2 * STORE, text: 8 * NEAR, out: 16 * NEAR };
-        Sweeps { pair: Pair::new(rooms, broken), rng: Rng::new(seed), used: used() }
+        let rooms = Lengths::right(8 * NEAR, 16 * NEAR);
+        let twice = Lengths { image: 2 * IMAGE, marks: 2 * STORE, ..rooms };
+        let [pair, wide] = [rooms, twice].map(|rooms| Pair::new(rooms, broken));
+        Sweeps { pair, wide, rng: Rng::new(seed), used: used() }
+    }
+
+    pub fn add_to(&self, tally: &mut Tally) {
+        tally.add(&self.pair.tally);
+        tally.add(&self.wide.tally);
     }
 
     pub fn run(&mut self) -> Done {
@@ -57,27 +69,26 @@ impl Sweeps {
         self.digits()
     }
 
+    /// A slot has an odd length, so of two neighbours each byte is changed in both ways.
     fn every_image_byte(&mut self) -> Done {
         self.pair.change(|image, marks| random_state(&mut self.rng, image, marks));
         let state = self.pair.save();
         for at in 0..IMAGE {
-            for flip in [0x01, 0xFF] {
-                self.pair.change(|image, _| image[at] ^= flip);
-                say(&mut self.pair, "09", ROOM)?;
-                self.pair.change(|image, _| image[at] = state.image[at]);
-            }
+            self.pair.lay_in_image(at, state.image[at] ^ [0x01, 0xFF][at % 2]);
+            say(&mut self.pair, "09", ROOM)?;
+            self.pair.lay_in_image(at, state.image[at]);
         }
         Ok(())
     }
 
     fn starts(&mut self) -> Done {
-        for image in [0, 1, IMAGE - 1, IMAGE, IMAGE + 1, 2 * IMAGE] {
+        for image in [0, 1, OLD_IMAGE, IMAGE - 1, IMAGE, IMAGE + 1, 2 * IMAGE] {
             for marks in stores() {
-                self.pair.change(|image, marks| {
+                self.wide.change(|image, marks| {
                     image.fill(0xEE);
                     marks.fill(0xEE);
                 });
-                self.pair.call(Function::Start, Lengths { image, marks, text: 0, out: 0 })?;
+                self.wide.call(Function::Start, Lengths { image, marks, text: 0, out: 0 })?;
             }
         }
         Ok(())
@@ -85,19 +96,19 @@ impl Sweeps {
 
     /// Lines and sessions, with too little room and with enough.
     fn lengths(&mut self) -> Done {
-        self.pair.restore(&self.used);
-        let image = near(IMAGE).map(|image| (image, STORE));
+        self.wide.restore(&self.used);
+        let image = near(IMAGE).chain([OLD_IMAGE]).map(|image| (image, STORE));
         let marks = stores().map(|marks| (IMAGE, marks));
         let both = stores().map(|marks| (IMAGE + 1, marks));
         for (image, marks) in image.chain(marks).chain(both) {
             for (line, text) in [("0B01", "0B01\n0B01"), ("0C", "0C\n0C")] {
-                self.pair.say(text.as_bytes());
+                self.wide.say(text.as_bytes());
                 let need = room(line.as_bytes());
                 for out in [0, need - 1, need, 2 * need] {
                     let lengths = Lengths { image, marks, text: line.len(), out };
-                    self.pair.call(Function::Line, lengths)?;
-                    self.pair.call(Function::Session, Lengths { text: text.len(), ..lengths })?;
-                    self.pair.call(Function::Session, Lengths { text: 0, ..lengths })?;
+                    self.wide.call(Function::Line, lengths)?;
+                    self.wide.call(Function::Session, Lengths { text: text.len(), ..lengths })?;
+                    self.wide.call(Function::Session, Lengths { text: 0, ..lengths })?;
                 }
             }
         }
@@ -126,12 +137,11 @@ impl Sweeps {
         self.pair.restore(&self.used);
         for at in 0..NAMESPACES + 2 {
             for value in 0..=255 {
-                let old = self.used.image[at];
-                self.pair.change(|image, _| image[at] = value);
+                self.pair.lay_in_image(at, value);
                 say(&mut self.pair, "09", ROOM)?;
                 say(&mut self.pair, "0C", DISCOVERY_ROOM)?;
-                self.pair.change(|image, _| image[at] = old);
             }
+            self.pair.lay_in_image(at, self.used.image[at]);
         }
         Ok(())
     }
@@ -142,12 +152,12 @@ impl Sweeps {
         for block in [0, BLOCKS - 1] {
             for at in block * MARK..(block + 1) * MARK {
                 for value in 0..=255 {
-                    self.pair.change(|_, marks| marks[at] = value);
+                    self.pair.lay_in_marks(at, value);
                     for tag in 0..2 {
                         say(&mut self.pair, read(1, tag, block as u64, 0), ROOM)?;
                     }
                 }
-                self.pair.change(|_, marks| marks[at] = self.used.marks[at]);
+                self.pair.lay_in_marks(at, self.used.marks[at]);
             }
         }
         Ok(())
@@ -200,18 +210,20 @@ fn stores() -> impl Iterator<Item = usize> {
     near(STORE).chain([OLD_STORE])
 }
 
-/// Namespaces 1 and 2 in use, every block of the first written; two KeyUIDs of namespace 1 have the
-/// same first eight bytes and the same length.
+/// Namespaces 1 and 4 in use, every block of both written, the last slot loaded; two KeyUIDs of
+/// namespace 1 have the same first eight bytes and the same length.
 fn used() -> State {
     let mut marks = vec![0; STORE];
     let (_, mut drive) = Drive::start(&mut marks);
     let lines = [
         manage(1, 3),
-        manage(2, 32),
+        manage(4, 128),
         load(1, 0, "A0A1A2A3A4A5A6A7A8", 0x11),
         load(1, 1, "A0A1A2A3A4A5A6A7FF", 0x22),
-        load(2, 31, "AA", 0x33),
+        load(4, 0, "BB", 0x44),
+        load(4, 127, "AA", 0x33),
         write(1, 0, 0, 255),
+        write(4, 127, 0, 255),
     ];
     for line in lines {
         let (number, _) = drive.line(&mut marks, line.as_bytes(), &mut [0; ROOM]);
@@ -223,13 +235,13 @@ fn used() -> State {
 /// One of each kind, accepted by the used drive but for the boot write.
 fn frames() -> [String; 12] {
     [
-        manage(3, 29),
+        manage(3, 125),
         release(1),
-        load(1, 2, "AA", 0x33),
+        load(4, 126, "AA", 0x33),
         replace(1, 0, "A0A1A2A3A4A5A6A7A8", "AA", 0x33),
-        clear_one(1, 0),
-        clear_all(2),
-        read(1, 0, 200, 55),
+        clear_one(4, 127),
+        clear_all(4),
+        read(4, 127, 200, 55),
         set_features(0x0B),
         get_features(),
         boot_write(0),

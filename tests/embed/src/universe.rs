@@ -1,7 +1,7 @@
 //! Frames over few namespaces, tags, KeyUIDs and keys, so that they meet each other often.
 
 use embed::Rng;
-use model::numbers::{COMMAND, FRAME, KEY, KEY_UID, NAMESPACES, SLOT, TAGS};
+use model::numbers::{COMMAND, FRAME, KEY, KEY_UID, NAMESPACES, POOL, SLOT, TAGS};
 
 /// Lengths and first bytes are shared in every way that a cut or a pad could confuse.
 const KEY_UIDS: [&[u8]; 19] = [
@@ -26,7 +26,7 @@ const KEY_UIDS: [&[u8]; 19] = [
     b"\x00\x00\x00\x00\x00\x00\x00\x00\x00\x00\x00\x00\x00\x00\x00\x00",
 ];
 
-const COUNTS: [u8; 16] = [1, 2, 2, 3, 4, 4, 8, 12, 16, 20, 31, 32, 32, 0, 33, 255];
+const COUNTS: [u8; 16] = [1, 2, 2, 3, 4, 8, 32, 63, 64, 126, 127, 128, 128, 0, 129, 255];
 
 /// How often each kind comes, in turns of 256.
 const KINDS: [(u8, u8); 12] = [
@@ -50,7 +50,7 @@ pub fn frame(rng: &mut Rng, image: &[u8], frame: &mut Vec<u8>) {
     let kind = kind(rng);
     frame.push(kind);
     match kind {
-        0x01 => frame.extend([namespace(rng), rng.pick(&COUNTS)]),
+        0x01 => frame.extend([namespace(rng), tag_count(rng, image)]),
         0x02 | 0x06 => frame.push(namespace(rng)),
         0x03 => load(rng, image, frame),
         0x04 => replace(rng, image, frame),
@@ -99,13 +99,27 @@ fn namespace(rng: &mut Rng) -> u8 {
     }
 }
 
+/// Now and then what is left of the pool, or one more.
+fn tag_count(rng: &mut Rng, image: &[u8]) -> u8 {
+    let counts = image[..NAMESPACES].iter().map(|&count| usize::from(count));
+    let left = POOL.saturating_sub(counts.sum());
+    match rng.below(4) {
+        0 => left.min(255) as u8,
+        1 => (left + 1).min(255) as u8,
+        _ => rng.pick(&COUNTS),
+    }
+}
+
+/// Mostly one of the first or the last, where slots are loaded.
 fn tag(rng: &mut Rng, image: &[u8], namespace: u8) -> u16 {
     let index = usize::from(namespace.wrapping_sub(1));
     let count = u16::from(*image[..NAMESPACES].get(index).unwrap_or(&0));
     match rng.below(24) {
         0 => count,
-        1 => rng.pick(&[count.wrapping_sub(1), count + 1, 31, 32, 256, 0xFFFF]),
+        1 => rng.pick(&[count.wrapping_sub(1), count + 1, 127, 128, 255, 256, 0xFFFF]),
         2 => 256 + rng.below(4) as u16,
+        3..=8 => count.saturating_sub(1 + rng.below(3) as u16),
+        9..=18 => rng.below(usize::from(count.clamp(1, 8))) as u16,
         _ => rng.below(usize::from(count.max(1))) as u16,
     }
 }

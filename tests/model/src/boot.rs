@@ -1,7 +1,7 @@
 //! Boot locks and resets: kinds 08 to 0B.
 
 use crate::drive::Drive;
-use crate::numbers::{LOCKED, UNLOCKED, UNTIL_POWER_CYCLE};
+use crate::numbers::{LOCKED, NAMESPACES, UNLOCKED, UNTIL_POWER_CYCLE};
 use crate::status;
 
 const NO_CHANGE: u8 = 0;
@@ -42,7 +42,7 @@ impl Drive {
         match level {
             0 => Ok(()),
             1 => {
-                self.keys.fill(0);
+                (0..NAMESPACES).for_each(|index| self.empty_slots(index));
                 self.locks = [LOCKED; 2];
                 Ok(())
             }

@@ -6,7 +6,7 @@ use crate::numbers::{
 };
 use crate::status;
 
-/// The slot of (namespace, tag) starts at `((namespace - 1) * 32 + tag) * 49` of `keys`: KeyUID
+/// The slot of (namespace, tag) starts at `((namespace - 1) * 128 + tag) * 49` of `keys`: KeyUID
 /// length (0 for an empty slot), KeyUID padded with zeros to 16, key.
 #[derive(Clone, Debug, PartialEq, Eq)]
 pub struct Drive {

@@ -109,7 +109,7 @@ impl Drive {
     }
 
     /// Of a sound drive the slots past the count are zero already.
-    fn empty_slots(&mut self, index: usize) {
+    pub(crate) fn empty_slots(&mut self, index: usize) {
         let length = usize::from(self.counts[index]) * SLOT;
         self.keys[index * TAGS * SLOT..][..length].fill(0);
     }

@@ -2,8 +2,8 @@
 
 pub const NAMESPACES: usize = 4;
 pub const BLOCKS: usize = 256;
-pub const POOL: usize = 64;
-pub const TAGS: usize = 32;
+pub const POOL: usize = 256;
+pub const TAGS: usize = 128;
 
 pub const KEY_UID: usize = 16;
 pub const KEY: usize = 32;

@@ -15,16 +15,36 @@ fn a_slot_holds_its_key_padded() {
     let mut bench = Bench::new();
     bench.accept(manage(2, 2));
     bench.accept(load(2, 1, "AABB", 0x11));
-    let slot = &bench.drive.keys[(32 + 1) * 49..][..49];
+    let slot = &bench.drive.keys[(128 + 1) * 49..][..49];
     assert_eq!(slot[..3], [2, 0xAA, 0xBB]);
     assert_eq!(slot[3..17], [0; 14]);
     assert_eq!(slot[17..], [0x11; 32]);
     bench.accept(replace(2, 1, "AABB", "CC", 0x22));
-    let slot = &bench.drive.keys[(32 + 1) * 49..][..49];
+    let slot = &bench.drive.keys[(128 + 1) * 49..][..49];
     assert_eq!(slot[..3], [1, 0xCC, 0]);
     assert_eq!(slot[17..], [0x22; 32]);
     bench.accept(clear_one(2, 1));
     assert!(bench.drive.keys.iter().all(|&byte| byte == 0));
+}
+
+#[test]
+fn the_first_and_the_last_slot() {
+    let mut bench = Bench::new();
+    assert_eq!(bench.drive.keys.len(), 25_088);
+    assert_eq!(bench.drive.to_image().len(), 25_094);
+    bench.accept(manage(1, 128));
+    bench.accept(manage(4, 128));
+    bench.accept(load(1, 0, U16, 0x11));
+    bench.accept(load(1, 127, U9, 0x22));
+    bench.accept(load(4, 0, U9, 0x22));
+    bench.accept(load(4, 127, U16, 0x11));
+    let keys = &bench.drive.keys;
+    for (start, length) in [(0, 16), (127 * 49, 9), (3 * 128 * 49, 9), (25_088 - 49, 16)] {
+        assert_eq!(keys[start..start + 2], [length, 0xA0]);
+    }
+    assert_eq!(keys[25_088 - 32..], [0x11; 32]);
+    assert_eq!(keys[49..127 * 49], [0; 126 * 49]);
+    assert_eq!(keys[128 * 49..3 * 128 * 49], [0; 2 * 128 * 49]);
 }
 
 #[test]
@@ -53,9 +73,9 @@ fn an_unmanaged_write_leaves_no_mark() {
 fn release_takes_its_own_marks_and_slots_only() {
     let mut bench = Bench::new();
     for namespace in 1..=4 {
-        bench.accept(manage(namespace, 16));
-        bench.accept(load(namespace, 15, "AA", 0x11));
-        bench.accept(write(namespace.into(), 15, 0, 255));
+        bench.accept(manage(namespace, 64));
+        bench.accept(load(namespace, 63, "AA", 0x11));
+        bench.accept(write(namespace.into(), 63, 0, 255));
     }
     let (drive, marks) = (bench.drive.clone(), bench.marks.clone());
     bench.accept(release(2));
@@ -63,10 +83,27 @@ fn release_takes_its_own_marks_and_slots_only() {
     assert_eq!(bench.marks[..start], marks[..start]);
     assert_eq!(bench.marks[start..end], [0; BLOCKS * MARK]);
     assert_eq!(bench.marks[end..], marks[end..]);
-    assert_eq!(bench.drive.counts, [16, 0, 16, 16]);
-    assert_eq!(bench.drive.keys[..32 * 49], drive.keys[..32 * 49]);
-    assert_eq!(bench.drive.keys[32 * 49..64 * 49], [0; 32 * 49]);
-    assert_eq!(bench.drive.keys[64 * 49..], drive.keys[64 * 49..]);
+    assert_eq!(bench.drive.counts, [64, 0, 64, 64]);
+    assert_eq!(bench.drive.keys[..128 * 49], drive.keys[..128 * 49]);
+    assert_eq!(bench.drive.keys[128 * 49..256 * 49], [0; 128 * 49]);
+    assert_eq!(bench.drive.keys[256 * 49..], drive.keys[256 * 49..]);
+}
+
+#[test]
+fn every_slot_is_emptied() {
+    let empties = [vec![power_cycle()], [2, 4].map(clear_all).into(), [2, 4].map(release).into()];
+    for lines in empties {
+        let mut bench = Bench::new();
+        for namespace in [2, 4] {
+            bench.accept(manage(namespace, 128));
+            for tag in 0..128 {
+                bench.accept(load(namespace, tag, &format!("{namespace:02X}{tag:02X}"), tag as u8));
+            }
+        }
+        assert!(bench.drive.sound());
+        lines.iter().for_each(|line| bench.accept(line));
+        assert!(bench.drive.keys.iter().all(|&byte| byte == 0));
+    }
 }
 
 #[test]

@@ -27,15 +27,15 @@ fn worked_session() {
 #[test]
 fn p1_tag_count() {
     let mut bench = Bench::new();
-    bench.refuse(manage(1, 33), "0707");
-    bench.accept(manage(1, 32));
+    bench.refuse(manage(1, 129), "0707");
+    bench.accept(manage(1, 128));
 }
 
 #[test]
 fn p2_pool() {
     let mut bench = Bench::new();
-    bench.accept(manage(1, 32));
-    bench.accept(manage(2, 32));
+    bench.accept(manage(1, 128));
+    bench.accept(manage(2, 128));
     bench.refuse(manage(3, 1), "0708");
     bench.accept(release(1));
     bench.accept(manage(3, 1));

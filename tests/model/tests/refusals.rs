@@ -60,7 +60,7 @@ fn namespace_000b() {
 #[test]
 fn tag_0025() {
     let mut bench = recorded();
-    for tag in [2, 256, u16::MAX] {
+    for tag in [2, 127, 128, 256, u16::MAX] {
         bench.refuse(load(1, tag, "BB", 0x22), "0025");
         bench.refuse(replace(1, tag, "AA", "BB", 0x22), "0025");
         bench.refuse(clear_one(1, tag), "0025");
@@ -188,12 +188,29 @@ fn management_0705_to_0708() {
     bench.refuse(load(2, 0, "AA", 0x11), "0706");
     bench.refuse(replace(2, 0, "AA", "BB", 0x22), "0706");
     bench.refuse(clear_one(2, 0), "0706");
-    for count in [0, 33, 255] {
+    for count in [0].into_iter().chain(129..=255) {
         bench.refuse(manage(2, count), "0707");
     }
-    bench.accept(manage(2, 32));
-    bench.refuse(manage(3, 31), "0708");
-    bench.accept(manage(3, 30));
+    bench.accept(manage(2, 128));
+    bench.refuse(manage(3, 127), "0708");
+    bench.accept(manage(3, 126));
+}
+
+/// Every three counts near their limits, held against the sum.
+#[test]
+fn pool_0708() {
+    let counts = [1, 2, 63, 64, 65, 126, 127, 128];
+    for (one, two) in counts.into_iter().flat_map(|one| counts.map(|two| (one, two))) {
+        for three in counts {
+            let mut bench = Bench::new();
+            bench.accept(manage(1, one));
+            bench.accept(manage(4, two));
+            match u32::from(one) + u32::from(two) + u32::from(three) {
+                ..=256 => bench.accept(manage(2, three)),
+                _ => bench.refuse(manage(2, three), "0708"),
+            }
+        }
+    }
 }
 
 #[test]
@@ -245,16 +262,19 @@ fn store_070d() {
 #[test]
 fn unsound_070e() {
     let slot = |namespace: usize, tag: usize| ((namespace - 1) * TAGS + tag) * SLOT;
-    let spoils: [&dyn Fn(&mut Drive); 9] = [
-        &|drive| drive.counts[3] = 33,
+    let spoils: [&dyn Fn(&mut Drive); 12] = [
+        &|drive| drive.counts[3] = 129,
         &|drive| drive.counts = [255; 4],
-        &|drive| drive.counts = [2, 32, 31, 0],
+        &|drive| drive.counts = [128; 4],
+        &|drive| drive.counts = [2, 255, 0, 0],
+        &|drive| drive.counts = [2, 128, 127, 0],
         &|drive| drive.keys[slot(1, 2)] = 1,
-        &|drive| drive.keys[slot(4, 31)] = 1,
+        &|drive| drive.keys[slot(1, 127)] = 1,
+        &|drive| drive.keys[slot(4, 127)] = 1,
         &|drive| drive.keys[slot(1, 0)] = 17,
         &|drive| drive.keys[slot(1, 0) + 16] = 1,
         &|drive| drive.keys[slot(1, 1) + 1] = 1,
-        &|drive| drive.keys[slot(4, 31) + SLOT - 1] = 1,
+        &|drive| drive.keys[slot(4, 127) + SLOT - 1] = 1,
     ];
     for spoil in spoils {
         let mut bench = recorded();
@@ -264,7 +284,7 @@ fn unsound_070e() {
         assert_eq!(refused_call(&mut bench, 13), 0x070E);
     }
     let mut bench = recorded();
-    bench.drive.counts = [2, 32, 30, 0];
+    bench.drive.counts = [2, 128, 126, 0];
     bench.drive.keys[slot(1, 0)] = 16;
     bench.drive.keys[slot(1, 0) + 1..slot(1, 1)].fill(0xEE);
     assert!(bench.drive.sound());
@@ -320,7 +340,7 @@ fn a_line_asks_for_room_by_its_digits() {
 #[test]
 fn room_before_store_before_soundness() {
     let mut bench = recorded();
-    bench.drive.counts[0] = 33;
+    bench.drive.counts[0] = 129;
     assert_eq!(refused_call(&mut bench, 13), 0x070E);
     assert_eq!(refused_with(&mut bench, "0C", 229), 0x070E);
     bench.marks.pop();
@@ -338,6 +358,7 @@ fn images() {
     assert_eq!(image[6..9], [1, 0xAA, 0]);
     assert_eq!(Drive::from_image(&image), Some(bench.drive));
     assert_eq!(Drive::from_image(&image[1..]), None);
+    assert_eq!(Drive::from_image(&image[..6_278]), None);
     assert_eq!(Drive::from_image(&[image.as_slice(), &[0]].concat()), None);
     assert_eq!(Drive::from_image(&[]), None);
     for (at, lock) in [(4, 0), (4, 4), (5, 0), (5, 255)] {

@@ -17,6 +17,16 @@ pub enum Rule {
     Input,
     /// A bad tag count is seen before a managed namespace.
     ManageOrder,
+    /// A tag count above 32 is bad, as 01 had it.
+    OldTagCount,
+    /// The pool has 64 slots, as 01 had it.
+    OldPool,
+    /// Of a tag the low byte counts.
+    TagByte,
+    /// On a load the first 32 slots of each namespace count for 07 0C.
+    NearSlots,
+    /// A clear all or a power cycle empties the first 32 slots of a namespace.
+    FarKeys,
     /// On a replace the slot whose key goes does not count for 07 0C.
     OwnSlot,
     /// Only the slots of the same namespace count for 07 0C.
@@ -49,11 +59,16 @@ pub enum Rule {
     DiscoveryLocks,
 }
 
-const NAMES: [(&str, Rule); 19] = [
+const NAMES: [(&str, Rule); 24] = [
     ("small-letters", Rule::SmallLetters),
     ("last-line", Rule::LastLine),
     ("input", Rule::Input),
     ("manage-order", Rule::ManageOrder),
+    ("old-tag-count", Rule::OldTagCount),
+    ("old-pool", Rule::OldPool),
+    ("tag-byte", Rule::TagByte),
+    ("near-slots", Rule::NearSlots),
+    ("far-keys", Rule::FarKeys),
     ("own-slot", Rule::OwnSlot),
     ("other-rooms", Rule::OtherRooms),
     ("clear-marks", Rule::ClearMarks),
@@ -70,6 +85,10 @@ const NAMES: [(&str, Rule); 19] = [
     ("discovery-length", Rule::DiscoveryLength),
     ("discovery-locks", Rule::DiscoveryLocks),
 ];
+
+/// The slots of 01, in the pool and at most in a namespace.
+const OLD_POOL: usize = 64;
+const OLD_TAGS: usize = 32;
 
 impl Rule {
     pub fn named(name: &str) -> Option<Rule> {
@@ -135,12 +154,28 @@ impl Bench {
                 return out;
             }
         }
-        let (keys, marks) = (self.drive.keys, self.marks);
+        let (mut keys, marks) = (self.drive.keys, self.marks);
         let (number, out) = self.line(line);
         let done = number == status::DONE;
         match (rule, line.get(..2).unwrap_or(b"")) {
             (Rule::ManageOrder, b"01") if number == status::MANAGED && bad_count(line) => {
                 return b"0707\n".to_vec();
+            }
+            (Rule::OldTagCount, b"01") if done && usize::from(byte(line, 2)) > OLD_TAGS => {
+                return self.unmanaged(line, b"0707\n");
+            }
+            (Rule::OldPool, b"01") if done && self.allocated() > OLD_POOL => {
+                return self.unmanaged(line, b"0708\n");
+            }
+            (Rule::TagByte, kind) if number == status::TAG => {
+                return self.line(&low_tag(kind, line)).1;
+            }
+            (Rule::NearSlots, b"03") if number == status::OTHER_KEY => {
+                return self.near_slots(line);
+            }
+            (Rule::FarKeys, b"06" | b"0B") if done => {
+                let far = far_slots(&mut self.drive.keys).zip(far_slots(&mut keys));
+                far.for_each(|(now, before)| now.copy_from_slice(before));
             }
             (Rule::OwnSlot, b"04") if number == status::OTHER_KEY => return self.own_slot(line),
             (Rule::OtherRooms, _) if number == status::OTHER_KEY => return self.other_rooms(line),
@@ -179,6 +214,25 @@ impl Bench {
         out
     }
 
+    fn allocated(&self) -> usize {
+        self.drive.counts.iter().map(|&count| usize::from(count)).sum()
+    }
+
+    /// Takes back what a manage did.
+    fn unmanaged(&mut self, line: &[u8], answer: &[u8]) -> Vec<u8> {
+        self.drive.counts[usize::from(byte(line, 1)) - 1] = 0;
+        answer.to_vec()
+    }
+
+    /// Answers a refused load again with the far slots out of sight. What it loads was zero.
+    fn near_slots(&mut self, line: &[u8]) -> Vec<u8> {
+        let keys = self.drive.keys;
+        far_slots(&mut self.drive.keys).for_each(|slots| slots.fill(0));
+        let out = self.line(line).1;
+        self.drive.keys.iter_mut().zip(keys).for_each(|(byte, before)| *byte |= before);
+        out
+    }
+
     /// Clears the slot of a refused replace and loads it.
     fn own_slot(&mut self, line: &[u8]) -> Vec<u8> {
         let (drive, old) = (self.drive.clone(), 2 * usize::from(byte(line, 4)));
@@ -208,6 +262,17 @@ impl Bench {
 fn byte(line: &[u8], at: usize) -> u8 {
     let digit = |at: usize| (line[at] as char).to_digit(16).expect("a digit") as u8;
     digit(2 * at) << 4 | digit(2 * at + 1)
+}
+
+/// The line with zero for its tag's high byte.
+fn low_tag(kind: &[u8], line: &[u8]) -> Vec<u8> {
+    let at = if kind == b"07" { 2 * (1 + 53) } else { 2 * 3 };
+    [&line[..at], b"00", &line[at + 2..]].concat()
+}
+
+/// The slots behind the first 32 of each namespace.
+fn far_slots(keys: &mut [u8; KEYS]) -> impl Iterator<Item = &mut [u8]> {
+    keys.chunks_exact_mut(TAGS * SLOT).map(|slots| &mut slots[OLD_TAGS * SLOT..])
 }
 
 fn bad_count(line: &[u8]) -> bool {

@@ -79,8 +79,8 @@ fn same_on_a_full_drive(folder: &mut Folder) {
     folder.add(
         "discovery-on-a-full-drive",
         [
-            (manage(1, 32), "0000"),
-            (manage(2, 31), "0000"),
+            (manage(1, 128), "0000"),
+            (manage(2, 127), "0000"),
             (discovery(), answer()),
             (manage(3, 2), "0708"),
             (manage(3, 1), "0000"),
@@ -88,7 +88,7 @@ fn same_on_a_full_drive(folder: &mut Folder) {
             (manage(4, 1), "0708"),
             (release(1), "0000"),
             (discovery(), answer()),
-            (manage(4, 32), "0000"),
+            (manage(4, 128), "0000"),
         ],
     );
 }

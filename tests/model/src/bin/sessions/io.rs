@@ -157,10 +157,10 @@ fn unmanaged_passes(folder: &mut Folder) {
 }
 
 fn tags(folder: &mut Folder) {
-    for count in [1, 2, 31, 32] {
+    for count in [1, 2, 127, 128] {
         let n = u16::from(count);
         let setup = [(manage(2, count), "0000"), (load(2, n - 1, "AA", 0x11), "0000")];
-        let above = [n, n + 1, 33, 255, 256, 65535];
+        let above = [n, n + 1, 129, 255, 256, 65535];
         let above = above.map(|tag| (read(2, tag, 0, 0), "0025"));
         let good = [(write(2, n - 1, 0, 0), "0000"), (read(2, n - 1, 0, 0), "0000")];
         folder.add(format!("io-tags-of-{count}"), setup.into_iter().chain(above).chain(good));

@@ -5,8 +5,8 @@ pub const KEPT: [(&str, &[&str]); 11] = [
         "paper",
         &[
             "paper-worked-session",
-            "p01-tag-count-32-and-33",
-            "p02-pool-of-64",
+            "p01-tag-count-128-and-129",
+            "p02-pool-of-256",
             "p03-block-255",
             "p04-first-block-2-to-the-64-minus-1",
             "p05-tag-n-minus-1-and-n",
@@ -42,9 +42,13 @@ pub const KEPT: [(&str, &[&str]); 11] = [
         "manage",
         &[
             "manage-already-managed",
+            "manage-tag-counts-up-to-128",
             "not-managed-every-kind",
+            "pool-64-each",
             "pool-is-not-returned-by-clearing",
+            "pool-sums-past-a-byte",
             "release-empties-slots-and-marks",
+            "release-empties-tag-127",
         ],
     ),
     (
@@ -54,6 +58,9 @@ pub const KEPT: [(&str, &[&str]); 11] = [
             "load-cut-at-every-digit-key-uid-1-from-1",
             "load-every-bad-key-uid-length",
             "load-occupied",
+            "load-tag-256-is-not-tag-0",
+            "load-tags-of-128",
+            "conflict-at-first-and-last-slot",
             "conflict-in-every-pair-of-namespaces",
         ],
     ),
@@ -66,7 +73,15 @@ pub const KEPT: [(&str, &[&str]); 11] = [
             "replace-with-its-own-key-uid",
         ],
     ),
-    ("clear", &["clear-all-empties-one-namespace", "clear-one-tags"]),
+    (
+        "clear",
+        &[
+            "clear-all-empties-one-namespace",
+            "clear-all-empties-tag-0-and-127",
+            "clear-one-tags",
+            "power-cycle-empties-tag-0-and-127",
+        ],
+    ),
     ("io", &["io-block-edges-opcode-02", "io-cetypes", "io-empty-slots", "io-opcodes-00-to-1e"]),
     (
         "marks",

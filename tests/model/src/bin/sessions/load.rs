@@ -9,7 +9,8 @@ const A16: &str = "A0A1A2A3A4A5A6A7A8A9AAABACADAEAF";
 pub fn add(folder: &mut Folder) {
     namespaces(folder);
     tags(folder);
-    tag_count_32(folder);
+    tag_count_128(folder);
+    tag_256_is_not_tag_0(folder);
     every_tag(folder);
     key_uid_lengths(folder);
     occupied(folder);
@@ -30,7 +31,7 @@ fn namespaces(folder: &mut Folder) {
 }
 
 fn tags(folder: &mut Folder) {
-    for count in [1, 2, 31] {
+    for count in [1, 2, 127] {
         let n = u16::from(count);
         folder.add(
             format!("load-tags-of-{count}"),
@@ -38,7 +39,7 @@ fn tags(folder: &mut Folder) {
                 (manage(3, count), "0000"),
                 (load(3, n, "AA", 0x11), "0025"),
                 (load(3, n + 1, "AA", 0x11), "0025"),
-                (load(3, 32, "AA", 0x11), "0025"),
+                (load(3, 128, "AA", 0x11), "0025"),
                 (load(3, 255, "AA", 0x11), "0025"),
                 (load(3, 256, "AA", 0x11), "0025"),
                 (load(3, 256 + n - 1, "AA", 0x11), "0025"),
@@ -52,36 +53,70 @@ fn tags(folder: &mut Folder) {
     }
 }
 
-fn tag_count_32(folder: &mut Folder) {
+fn tag_count_128(folder: &mut Folder) {
     folder.add(
-        "load-tags-of-32",
+        "load-tags-of-128",
         [
-            (manage(1, 32), "0000"),
-            (manage(2, 32), "0000"),
+            (manage(1, 128), "0000"),
+            (manage(2, 128), "0000"),
             (load(2, 0, "BB", 0x22), "0000"),
-            (load(1, 32, "AA", 0x11), "0025"),
-            (load(1, 33, "AA", 0x11), "0025"),
-            (load(1, 64, "AA", 0x11), "0025"),
+            (load(1, 128, "AA", 0x11), "0025"),
+            (load(1, 129, "AA", 0x11), "0025"),
+            (load(1, 255, "AA", 0x11), "0025"),
             (load(1, 65535, "AA", 0x11), "0025"),
-            (load(1, 31, "AA", 0x11), "0000"),
-            (load(1, 31, "AA", 0x11), "0709"),
+            (load(1, 127, "AA", 0x11), "0000"),
+            (load(1, 127, "AA", 0x11), "0709"),
+            (write(1, 127, 0, 0), "0000"),
+            (read(1, 127, 0, 0), "0000"),
+            (read(1, 128, 0, 0), "0025"),
             (read(2, 0, 0, 0), "0000"),
-            (clear_one(1, 31), "0000"),
+            (clear_one(1, 127), "0000"),
+            (read(1, 127, 0, 0), "0025"),
             (read(2, 0, 0, 0), "0000"),
         ],
     );
 }
 
+fn tag_256_is_not_tag_0(folder: &mut Folder) {
+    folder.add(
+        "load-tag-256-is-not-tag-0",
+        [
+            (manage(1, 128), "0000"),
+            (manage(3, 128), "0000"),
+            (load(1, 256, "AA", 0x11), "0025"),
+            (read(1, 0, 0, 0), "0025"),
+            (load(1, 0, "AA", 0x11), "0000"),
+            (load(3, 0, "BB", 0x22), "0000"),
+            (read(1, 0, 0, 0), "0000"),
+            (read(1, 256, 0, 0), "0025"),
+            (write(1, 256, 0, 0), "0025"),
+            (replace(1, 256, "AA", "CC", 0x33), "0025"),
+            (replace(1, 256, "BB", "CC", 0x33), "0025"),
+            (clear_one(1, 256), "0025"),
+            (load(1, 127, "DD", 0x44), "0000"),
+            (read(1, 256 + 127, 0, 0), "0025"),
+            (clear_one(1, 256 + 127), "0025"),
+            (read(1, 127, 0, 0), "0000"),
+            (read(1, 0, 0, 0), "0000"),
+            (read(3, 0, 0, 0), "0000"),
+        ],
+    );
+}
+
 fn every_tag(folder: &mut Folder) {
-    let managed = [(manage(4, 32), "0000")];
-    let loads = (0..32).map(|tag| (load(4, tag, &format!("{:02X}", 0xA0 + tag), 0x11), "0000"));
-    let clears = (0..32).rev().map(|tag| (clear_one(4, tag), "0000"));
-    let again = (0..32).map(|tag| (clear_one(4, tag), "070A"));
-    let lines: Lines = managed.into_iter().chain(loads).chain(clears).chain(again).collect();
-    folder.add("load-and-clear-all-32-tags", lines);
-    let managed = [(manage(1, 32), "0000"), (manage(4, 32), "0000")];
+    for first in [0, 32, 64, 96] {
+        let tags = first..first + 32;
+        let managed = [(manage(4, 128), "0000")];
+        let uid = |tag: u16| format!("{:02X}", 0x80 + tag);
+        let loads = tags.clone().map(|tag| (load(4, tag, &uid(tag), 0x11), "0000"));
+        let clears = tags.clone().rev().map(|tag| (clear_one(4, tag), "0000"));
+        let again = tags.clone().map(|tag| (clear_one(4, tag), "070A"));
+        let lines: Lines = managed.into_iter().chain(loads).chain(clears).chain(again).collect();
+        folder.add(format!("load-and-clear-32-tags-from-{first}"), lines);
+    }
+    let managed = [(manage(1, 128), "0000"), (manage(4, 128), "0000")];
     let loads = (0..25).flat_map(|tag| {
-        [(load(1, tag, "AA", 0x11), "0000"), (load(4, 31 - tag, "BB", 0x22), "0000")]
+        [(load(1, tag, "AA", 0x11), "0000"), (load(4, 127 - tag, "BB", 0x22), "0000")]
     });
     folder.add("load-50-slots-with-two-keys", managed.into_iter().chain(loads));
 }
@@ -162,19 +197,19 @@ fn conflict_at_the_last_slot(folder: &mut Folder) {
     folder.add(
         "conflict-at-first-and-last-slot",
         [
-            (manage(1, 32), "0000"),
-            (manage(4, 32), "0000"),
+            (manage(1, 128), "0000"),
+            (manage(4, 128), "0000"),
             (load(1, 0, "AA", 0x11), "0000"),
-            (load(4, 31, "BB", 0x22), "0000"),
-            (load(1, 31, "BB", 0x23), "070C"),
+            (load(4, 127, "BB", 0x22), "0000"),
+            (load(1, 127, "BB", 0x23), "070C"),
             (load(4, 0, "AA", 0x12), "070C"),
-            (load(1, 31, "BB", 0x22), "0000"),
+            (load(1, 127, "BB", 0x22), "0000"),
             (load(4, 0, "AA", 0x11), "0000"),
-            (clear_one(4, 31), "0000"),
-            (load(4, 31, "BB", 0x23), "070C"),
-            (clear_one(1, 31), "0000"),
-            (load(4, 31, "BB", 0x23), "0000"),
-            (load(1, 31, "BB", 0x22), "070C"),
+            (clear_one(4, 127), "0000"),
+            (load(4, 127, "BB", 0x23), "070C"),
+            (clear_one(1, 127), "0000"),
+            (load(4, 127, "BB", 0x23), "0000"),
+            (load(1, 127, "BB", 0x22), "070C"),
         ],
     );
 }

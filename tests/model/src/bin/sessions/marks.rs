@@ -196,7 +196,7 @@ fn kept(folder: &mut Folder) {
             ],
         );
     }
-    let calm = [controller_reset(), set_features(0x1B), get_features(), manage(2, 32), release(2)];
+    let calm = [controller_reset(), set_features(0x1B), get_features(), manage(2, 128), release(2)];
     let answers = ["0000", "0000", "00001B000000", "0000", "0000"];
     let ends = [(read(1, 1, 0, 0), "0028"), (read(1, 0, 0, 0), "0000")];
     let lines = [(write(1, 0, 0, 0), "0000")].into_iter().chain(calm.into_iter().zip(answers));
@@ -390,13 +390,13 @@ fn key_is_not_compared(folder: &mut Folder) {
     folder.add(
         "marks-same-key-uid-in-another-slot-reads",
         [
-            (manage(1, 32), "0000"),
+            (manage(1, 128), "0000"),
             (load(1, 0, "AA", 0x11), "0000"),
-            (load(1, 31, "AA", 0x11), "0000"),
+            (load(1, 127, "AA", 0x11), "0000"),
             (write(1, 0, 0, 0), "0000"),
-            (read(1, 31, 0, 0), "0000"),
+            (read(1, 127, 0, 0), "0000"),
             (clear_one(1, 0), "0000"),
-            (read(1, 31, 0, 0), "0000"),
+            (read(1, 127, 0, 0), "0000"),
         ],
     );
 }

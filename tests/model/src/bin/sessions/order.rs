@@ -99,16 +99,16 @@ fn manage_order(folder: &mut Folder) {
     folder.add(
         "order-manage-000b-before-0705-0707-0708",
         [
-            (manage(1, 16), "0000"),
-            (manage(2, 16), "0000"),
-            (manage(3, 16), "0000"),
-            (manage(4, 16), "0000"),
+            (manage(1, 64), "0000"),
+            (manage(2, 64), "0000"),
+            (manage(3, 64), "0000"),
+            (manage(4, 64), "0000"),
             (manage(0, 1), "000B"),
             (manage(5, 1), "000B"),
             (manage(0, 0), "000B"),
             (manage(5, 0), "000B"),
-            (manage(5, 33), "000B"),
-            (manage(5, 32), "000B"),
+            (manage(5, 129), "000B"),
+            (manage(5, 128), "000B"),
             (manage(255, 255), "000B"),
         ],
     );
@@ -117,7 +117,7 @@ fn manage_order(folder: &mut Folder) {
         [
             (manage(1, 1), "0000"),
             (manage(1, 0), "0705"),
-            (manage(1, 33), "0705"),
+            (manage(1, 129), "0705"),
             (manage(1, 255), "0705"),
             (manage(2, 0), "0707"),
         ],
@@ -125,9 +125,9 @@ fn manage_order(folder: &mut Folder) {
     folder.add(
         "order-manage-0705-before-0708",
         [
-            (manage(1, 32), "0000"),
-            (manage(2, 32), "0000"),
-            (manage(1, 32), "0705"),
+            (manage(1, 128), "0000"),
+            (manage(2, 128), "0000"),
+            (manage(1, 128), "0705"),
             (manage(2, 1), "0705"),
             (manage(3, 1), "0708"),
         ],
@@ -138,18 +138,18 @@ fn manage_count_and_pool(folder: &mut Folder) {
     folder.add(
         "order-manage-0707-before-0708",
         [
-            (manage(1, 32), "0000"),
-            (manage(2, 32), "0000"),
+            (manage(1, 128), "0000"),
+            (manage(2, 128), "0000"),
             (manage(3, 0), "0707"),
-            (manage(3, 33), "0707"),
-            (manage(3, 64), "0707"),
+            (manage(3, 129), "0707"),
+            (manage(3, 192), "0707"),
             (manage(3, 255), "0707"),
-            (manage(3, 32), "0708"),
+            (manage(3, 128), "0708"),
         ],
     );
     folder.add(
         "order-manage-0707-before-0708-from-fresh",
-        [(manage(1, 64), "0707"), (manage(1, 65), "0707"), (manage(1, 32), "0000")],
+        [(manage(1, 129), "0707"), (manage(1, 255), "0707"), (manage(1, 128), "0000")],
     );
 }
 
@@ -228,7 +228,7 @@ fn load_order(folder: &mut Folder) {
             (manage(1, 1), "0000"),
             (load(1, 0, "AA", 0x11), "0000"),
             (load(2, 0, "BB", 0x22), "0706"),
-            (load(2, 32, "BB", 0x22), "0706"),
+            (load(2, 128, "BB", 0x22), "0706"),
             (load(2, 65535, "BB", 0x22), "0706"),
             (load(2, 0, "AA", 0x12), "0706"),
         ],
@@ -239,11 +239,11 @@ fn load_tag_occupied_conflict(folder: &mut Folder) {
     folder.add(
         "order-load-0025-before-0709",
         [
-            (manage(1, 32), "0000"),
+            (manage(1, 128), "0000"),
             (manage(2, 1), "0000"),
             (load(1, 0, "AA", 0x11), "0000"),
             (load(2, 0, "AA", 0x11), "0000"),
-            (load(1, 32, "BB", 0x22), "0025"),
+            (load(1, 128, "BB", 0x22), "0025"),
             (load(1, 256, "BB", 0x22), "0025"),
             (load(2, 256, "BB", 0x22), "0025"),
         ],
@@ -340,7 +340,7 @@ fn replace_order(folder: &mut Folder) {
             (manage(2, 1), "0000"),
             (load(1, 0, "AA", 0x11), "0000"),
             (replace(1, 1, "AA", "BB", 0x22), "0025"),
-            (replace(1, 32, "AA", "BB", 0x22), "0025"),
+            (replace(1, 128, "AA", "BB", 0x22), "0025"),
             (replace(1, 256, "BB", "CC", 0x22), "0025"),
             (replace(1, 65535, "AA", "AA", 0x12), "0025"),
             (replace(2, 1, "AA", "AA", 0x12), "0025"),

@@ -28,19 +28,19 @@ fn worked(folder: &mut Folder) {
 
 fn tags_and_pool(folder: &mut Folder) {
     folder.add(
-        "p01-tag-count-32-and-33",
+        "p01-tag-count-128-and-129",
         [
-            (manage(1, 33), "0707"),
-            (manage(1, 32), "0000"),
-            (manage(2, 33), "0707"),
-            (manage(2, 32), "0000"),
+            (manage(1, 129), "0707"),
+            (manage(1, 128), "0000"),
+            (manage(2, 129), "0707"),
+            (manage(2, 128), "0000"),
         ],
     );
     folder.add(
-        "p02-pool-of-64",
+        "p02-pool-of-256",
         [
-            (manage(1, 32), "0000"),
-            (manage(2, 32), "0000"),
+            (manage(1, 128), "0000"),
+            (manage(2, 128), "0000"),
             (manage(3, 1), "0708"),
             (release(2), "0000"),
             (manage(3, 1), "0000"),

@@ -37,7 +37,7 @@ fn tags(folder: &mut Folder) {
         (load(2, 0, "AA", 0x11), "0000"),
         (load(2, 2, "AA", 0x11), "0000"),
     ];
-    let above = [3, 4, 31, 32, 255, 256, 258, 65535];
+    let above = [3, 4, 127, 128, 255, 256, 258, 65535];
     let above = above.map(|tag| (replace(2, tag, "AA", "BB", 0x22), "0025"));
     let last = [(replace(2, 2, "AA", "BB", 0x22), "0000"), (read(2, 2, 0, 0), "0000")];
     folder.add("replace-tags", setup.into_iter().chain(above).chain(last));

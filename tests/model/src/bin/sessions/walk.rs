@@ -2,7 +2,7 @@
 //! then a number at or past its limit, and one line in five broken at one place.
 
 use model::lines::*;
-use model::numbers::{BLOCKS, DISCOVERY_ROOM, HEAD, KEY, NAMESPACES, SLOT, STORE, TAGS};
+use model::numbers::{BLOCKS, DISCOVERY_ROOM, HEAD, KEY, NAMESPACES, POOL, SLOT, STORE, TAGS};
 use model::Drive;
 
 use crate::dice::Dice;
@@ -38,7 +38,7 @@ impl Walk {
 
     fn frame(&mut self) -> String {
         let managed = self.drive.counts.iter().any(|&count| count != 0);
-        let loaded = self.drive.keys.iter().any(|&byte| byte != 0);
+        let loaded = self.drive.keys.iter().step_by(SLOT).any(|&length| length != 0);
         if !managed && !self.dice.once_in(4) {
             return self.manage();
         }
@@ -91,12 +91,13 @@ impl Walk {
                 count,
                 count + 1,
                 count.saturating_sub(1),
-                31,
-                32,
+                127,
+                128,
                 256,
                 65535,
             ]),
-            2.. if !wanted.is_empty() => self.dice.pick(&wanted),
+            2..=3 if !wanted.is_empty() => wanted[wanted.len() - 1],
+            4.. if !wanted.is_empty() => self.dice.pick(&wanted),
             _ => self.dice.below(usize::from(count).max(1)) as u16,
         }
     }
@@ -117,7 +118,10 @@ impl Walk {
             true => self.namespace(),
             false => self.dice.pick(&free),
         };
-        manage(namespace, self.dice.pick(&[1, 2, 3, 3, 4, 16, 31, 32, 33, 0]))
+        // What is left of the pool, and one more.
+        let left = POOL - self.drive.counts.iter().map(|&count| usize::from(count)).sum::<usize>();
+        let [left, more] = [left, left + 1].map(|count| count.min(TAGS) as u8);
+        manage(namespace, self.dice.pick(&[1, 2, 3, 3, 4, 64, 127, 129, 255, 0, left, more]))
     }
 
     fn load(&mut self) -> String {
@@ -203,7 +207,7 @@ impl Walk {
             9 => line.make_ascii_lowercase(),
             10 => line.clear(),
             _ => {
-                let limits = [0x00, 0x01, 0x0F, 0x10, 0x11, 0x1F, 0x20, 0x21, 0x7F, 0x80, 0xFF];
+                let limits = [0x00, 0x01, 0x0F, 0x10, 0x11, 0x7F, 0x80, 0x81, 0xFF];
                 let byte = hex(&[self.dice.pick(&limits)]);
                 let has_length = line.starts_with(b"03") || line.starts_with(b"04");
                 let at = if has_length && self.dice.once_in(2) { 8 } else { at / 2 * 2 };
