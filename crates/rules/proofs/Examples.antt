@@ -1,6 +1,8 @@
--- The bench table and the session are right: the checker computes them.
+-- The bench table and the session are right: the checker computes them, the
+-- table's rows without the scan for soundness before every line.
 -- Assumes nothing.
-use mathlib.Core.Path.{refl}
+use mathlib.Core.Path.{_≡_, refl, _∙_}
+use mathlib.Core.Bool.{true}
 use Rattle.cells.specs.Cells.{part, write, zeros, copies, cell, put, fill}
 use Rattle.cells.specs.Predicates.{same, allZero, someFrom, someCell}
 use Rattle.rules.specs.Discovery.{headerBytes, tperBytes, keyPerIoBytes, response, ownHeader, ownTper, ownKeyPerIo, ownFields}
@@ -18,7 +20,8 @@ use Rattle.rules.specs.Order.{frameRule, lineRule}
 use Rattle.rules.specs.Start.{freshRegisters}
 use Rattle.rules.specs.Call.{roomFor, unanswered, answered, call}
 use Rattle.rules.specs.Sessions.{linesOf, endState, answersTo, answerLines, roomForAll, noSession, allAnswered, session}
-use Rattle.rules.specs.Examples.{codes, right, allRight, table, sessionRight, ExamplesRight}
+use Rattle.rules.specs.Examples.{codes, table, sessionRight, ExamplesRight}
+use Rattle.rules.proofs.ExamplesLaws.{rightOn, allRightOn, all-right-on}
 
 pub examples-right : ExamplesRight
 unfolding part write zeros copies cell put fill same allZero someFrom someCell digitsOf answerLine firstBad decoded lineChecks readLine little padded
@@ -26,5 +29,5 @@ unfolding part write zeros copies cell put fill same allZero someFrom someCell d
     storeKey emptySlot emptySlots emptyAllSlots zeroMarks markCovered manage release clearAll load replace clearOne wrongKey command setFeatures
     headerBytes tperBytes keyPerIoBytes response ownHeader ownTper ownKeyPerIo ownFields
     getFeatures bootWrite reset discovery frameRule lineRule freshRegisters roomFor unanswered answered call linesOf endState answersTo answerLines roomForAll
-    noSession allAnswered session codes right allRight table sessionRight
-examples-right = (refl, refl)
+    noSession allAnswered session codes rightOn allRightOn table sessionRight
+examples-right = (all-right-on table ∙ refl, refl)

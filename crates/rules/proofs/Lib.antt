@@ -19,4 +19,5 @@ pub mod PoolLaws
 pub mod LocksLaws
 pub mod Promised
 pub mod DiscoveryPromised
+pub mod ExamplesLaws
 pub mod Examples
