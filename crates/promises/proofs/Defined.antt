@@ -9,6 +9,11 @@ use Rattle.cells.proofs.same_part.Met as cells-same-part
 use Rattle.discovery.proofs.own_fields.Met as discovery-own-fields
 use Rattle.discovery.proofs.write.Met as discovery-write
 use Rattle.discovery.proofs.read.Met as discovery-read
+use Rattle.ttlv.proofs.item_at.Met as ttlv-item-at
+use Rattle.ttlv.proofs.sound.Met as ttlv-sound
+use Rattle.ttlv.proofs.read.Met as ttlv-read
+use Rattle.ttlv.proofs.write.Met as ttlv-write
+use Rattle.kmip.proofs.read.Met as kmip-read
 use Rattle.digits.proofs.read_line.Met as digits-read-line
 use Rattle.digits.proofs.number.Met as digits-number
 use Rattle.digits.proofs.write_answer.Met as digits-write-answer
@@ -52,6 +57,11 @@ defined = record {
   discovery-own-fields-ends = discovery-own-fields.met;
   discovery-write-ends = discovery-write.met;
   discovery-read-ends = discovery-read.met;
+  ttlv-item-at-ends = ttlv-item-at.met;
+  ttlv-sound-ends = ttlv-sound.met;
+  ttlv-read-ends = ttlv-read.met;
+  ttlv-write-ends = ttlv-write.met;
+  kmip-read-ends = kmip-read.met;
   digits-read-line-ends = digits-read-line.met;
   digits-number-ends = digits-number.met;
   digits-write-answer-ends = digits-write-answer.met;

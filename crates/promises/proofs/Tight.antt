@@ -19,10 +19,14 @@ use Rattle.drive.specs.declared.SessionReply.{SessionReply}
 use Rattle.frames.specs.Reading.{ReadFrom}
 use Rattle.tuffaleen_c.specs.Image.{CStarted, CCalled, CSession}
 use Rattle.tuffaleen_c.specs.Host.{CDiscovery}
+use Rattle.ttlv.specs.Listing as listing
+use Rattle.ttlv.specs.Writing as writing
+use Rattle.kmip.specs.Reading.{Told}
 use Rattle.promises.specs.Tight.{Tight-tuffaleen-c-start, Tight-tuffaleen-c-line, Tight-tuffaleen-c-session}
 use Rattle.promises.specs.Tight.{Tight-cells-fill-zero, Tight-cells-copy, Tight-cells-equal, Tight-cells-all-zero, Tight-cells-zero-part}
 use Rattle.promises.specs.Tight.{Tight-cells-same-part}
 use Rattle.promises.specs.Tight.{Tight-discovery-own-fields, Tight-discovery-write, Tight-discovery-read, Tight-tuffaleen-c-discovery}
+use Rattle.promises.specs.Tight.{Tight-ttlv-item-at, Tight-ttlv-sound, Tight-ttlv-read, Tight-ttlv-write, Tight-kmip-read}
 use Rattle.promises.specs.Tight.{Tight-digits-read-line, Tight-digits-number, Tight-digits-write-answer}
 use Rattle.promises.specs.Tight.{Tight-slots-loaded, Tight-slots-holds-uid, Tight-slots-other-key-allocated, Tight-slots-unsound, Tight-slots-store}
 use Rattle.promises.specs.Tight.{Tight-slots-clear, Tight-slots-clear-all, Tight-slots-clear-up-to, Tight-slots-clear-allocated}
@@ -62,6 +66,21 @@ tight-discovery-write = (λ κs args. tt, λ κs args r r′ e e′ p q. ap (λ 
 
 pub tight-discovery-read : Tight-discovery-read
 tight-discovery-read = (λ κs args. tt, λ κs args r r′ e e′ p q. one p q)
+
+pub tight-ttlv-item-at : Tight-ttlv-item-at
+tight-ttlv-item-at = (λ κs args. tt, λ κs args r r′ e e′ p q. one p q)
+
+pub tight-ttlv-sound : Tight-ttlv-sound
+tight-ttlv-sound = (λ κs args. tt, λ κs args r r′ e e′ p q. one p q)
+
+pub tight-ttlv-read : Tight-ttlv-read
+tight-ttlv-read = (λ κs args. tt, λ κs args r r′ e e′ p q. ap (λ (w : listing.Reading). (w .result, w .places)) (one p q))
+
+pub tight-ttlv-write : Tight-ttlv-write
+tight-ttlv-write = (λ κs args. tt, λ κs args r r′ e e′ p q. ap (λ (w : writing.Wrote). (w .result, w .out)) (one p q))
+
+pub tight-kmip-read : Tight-kmip-read
+tight-kmip-read = (λ κs args. tt, λ κs args r r′ e e′ p q. ap (λ (w : Told). (w .result, w .out)) (one p q))
 
 pub tight-digits-read-line : Tight-digits-read-line
 tight-digits-read-line = (λ κs args. tt, λ κs args r r′ e e′ p q. ap (λ (w : ReadInto). (w .read, w .frame)) (one p q))

@@ -10,6 +10,11 @@ use Rattle.cells.proofs.same_part.Statement as cells-same-part
 use Rattle.discovery.proofs.own_fields.Statement as discovery-own-fields
 use Rattle.discovery.proofs.write.Statement as discovery-write
 use Rattle.discovery.proofs.read.Statement as discovery-read
+use Rattle.ttlv.proofs.item_at.Statement as ttlv-item-at
+use Rattle.ttlv.proofs.sound.Statement as ttlv-sound
+use Rattle.ttlv.proofs.read.Statement as ttlv-read
+use Rattle.ttlv.proofs.write.Statement as ttlv-write
+use Rattle.kmip.proofs.read.Statement as kmip-read
 use Rattle.digits.proofs.read_line.Statement as digits-read-line
 use Rattle.digits.proofs.number.Statement as digits-number
 use Rattle.digits.proofs.write_answer.Statement as digits-write-answer
@@ -52,6 +57,11 @@ pub record Defined (M : Type 1) : Type 2 where
   pub discovery-own-fields-ends : discovery-own-fields.statement M
   pub discovery-write-ends : discovery-write.statement M
   pub discovery-read-ends : discovery-read.statement M
+  pub ttlv-item-at-ends : ttlv-item-at.statement M
+  pub ttlv-sound-ends : ttlv-sound.statement M
+  pub ttlv-read-ends : ttlv-read.statement M
+  pub ttlv-write-ends : ttlv-write.statement M
+  pub kmip-read-ends : kmip-read.statement M
   pub digits-read-line-ends : digits-read-line.statement M
   pub digits-number-ends : digits-number.statement M
   pub digits-write-answer-ends : digits-write-answer.statement M

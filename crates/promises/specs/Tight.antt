@@ -29,9 +29,18 @@ use Rattle.cells.proofs.equal.Reads as cells-equal
 use Rattle.cells.proofs.all_zero.Reads as cells-all-zero
 use Rattle.cells.proofs.zero_part.Reads as cells-zero-part
 use Rattle.cells.proofs.same_part.Reads as cells-same-part
+use Rattle.ttlv.specs.declared.Front.{Front}
+use Rattle.ttlv.specs.declared.ListRead.{ListRead}
+use Rattle.ttlv.specs.declared.Written.{Written}
+use Rattle.kmip.specs.declared.MessageRead.{MessageRead}
 use Rattle.discovery.proofs.own_fields.Reads as discovery-own-fields
 use Rattle.discovery.proofs.write.Reads as discovery-write
 use Rattle.discovery.proofs.read.Reads as discovery-read
+use Rattle.ttlv.proofs.item_at.Reads as ttlv-item-at
+use Rattle.ttlv.proofs.sound.Reads as ttlv-sound
+use Rattle.ttlv.proofs.read.Reads as ttlv-read
+use Rattle.ttlv.proofs.write.Reads as ttlv-write
+use Rattle.kmip.proofs.read.Reads as kmip-read
 use Rattle.digits.proofs.read_line.Reads as digits-read-line
 use Rattle.digits.proofs.number.Reads as digits-number
 use Rattle.digits.proofs.write_answer.Reads as digits-write-answer
@@ -105,6 +114,21 @@ Tight-discovery-write = Tight {Left = Answer × List ℕ} discovery-write.Asked 
 
 abbrev pub Tight-discovery-read : Type 0
 Tight-discovery-read = Tight {Left = Discovered} discovery-read.Asked discovery-read.Learnt (λ κs result exit. result)
+
+abbrev pub Tight-ttlv-item-at : Type 0
+Tight-ttlv-item-at = Tight {Left = Front} ttlv-item-at.Asked ttlv-item-at.Learnt (λ κs result exit. result)
+
+abbrev pub Tight-ttlv-sound : Type 0
+Tight-ttlv-sound = Tight {Left = Bool} ttlv-sound.Asked ttlv-sound.Learnt (λ κs result exit. result)
+
+abbrev pub Tight-ttlv-read : Type 0
+Tight-ttlv-read = Tight {Left = ListRead × List ℕ} ttlv-read.Asked ttlv-read.Learnt (λ κs result exit. (result, now (exit .1 .0)))
+
+abbrev pub Tight-ttlv-write : Type 0
+Tight-ttlv-write = Tight {Left = Written × List ℕ} ttlv-write.Asked ttlv-write.Learnt (λ κs result exit. (result, now (exit .1 .1 .1 .0)))
+
+abbrev pub Tight-kmip-read : Type 0
+Tight-kmip-read = Tight {Left = MessageRead × List ℕ} kmip-read.Asked kmip-read.Learnt (λ κs result exit. (result, now (exit .1 .1 .1 .0)))
 
 abbrev pub Tight-digits-read-line : Type 0
 Tight-digits-read-line = Tight {Left = LineRead × List ℕ} digits-read-line.Asked digits-read-line.Learnt (λ κs result exit. (result, now (exit .1 .0)))

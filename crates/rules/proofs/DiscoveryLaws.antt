@@ -6,10 +6,11 @@ use native.Mathlib.Omega.{arith}
 use Rattle.cells.specs.Cells.{part, zeros}
 use Rattle.rules.specs.declared.Tper.{Tper}
 use Rattle.rules.specs.declared.KeyPerIo.{KeyPerIo}
-use Rattle.rules.specs.Fields.{bits, field, bigEndian, twoBytes, fourBytes}
+use Rattle.rules.specs.Fields.{bits, field}
 use Rattle.rules.specs.Discovery.{FitTper, FitKeyPerIo, tperFlags, tperBytes}
 use Rattle.rules.specs.Discovery.{versions, keyFlags, wrappings, rsaKeys, provisioning, keyPerIoBytes}
 use Rattle.rules.specs.Discovering.{tperFrom, keyPerIoFrom}
+use Rattle.rules.proofs.FieldsLaws.{word-back, dword-back}
 
 pub tper-back : (t : Tper) → FitTper t → tperFrom (tperBytes t) ≡ t
 unfolding tperBytes tperFrom
@@ -22,18 +23,6 @@ tper-back t fit =
     let f : bits 1 1 (tperFlags t) ≡ t .«async_supported» = omega arith in
     let g : bits 0 0 (tperFlags t) ≡ t .«sync_supported» = omega arith in
     rw (a, b, c, d, e, f, g)
-
-word-back : (n : ℕ) → n < 2 ^ 16 → bigEndian (twoBytes n) ≡ n
-unfolding bigEndian
-word-back n h = omega arith
-
-pub dword-back : (n : ℕ) → n < 2 ^ 32 → bigEndian (fourBytes n) ≡ n
-unfolding bigEndian
-dword-back n h =
-    let top : n / 16777216 ≡ n / 16777216 % 256 = omega arith in
-    let high : n / 65536 ≡ n / 65536 % 256 + 256 * (n / 16777216) = omega arith in
-    let low : n / 256 ≡ n / 256 % 256 + 256 * (n / 65536) = omega arith in
-    omega arith
 
 pub key-per-io-back : (k : KeyPerIo) → FitKeyPerIo k → keyPerIoFrom (keyPerIoBytes k) ≡ k
 unfolding keyPerIoBytes keyPerIoFrom part zeros

@@ -2,6 +2,7 @@ pub mod ChecksLaws
 pub mod StateLaws
 pub mod FrameLineLaws
 pub mod AnswersLaws
+pub mod FieldsLaws
 pub mod DiscoveryLaws
 pub mod FeaturesLaws
 pub mod PlacesLaws
@@ -21,3 +22,6 @@ pub mod Promised
 pub mod DiscoveryPromised
 pub mod ExamplesLaws
 pub mod Examples
+pub mod TtlvFrontLaws
+pub mod TtlvLaws
+pub mod KmipExamples

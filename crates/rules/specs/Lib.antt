@@ -20,3 +20,7 @@ pub mod History
 pub mod Promises
 pub mod DiscoveryPromises
 pub mod Examples
+pub mod Ttlv
+pub mod TtlvPromises
+pub mod Kmip
+pub mod KmipExamples

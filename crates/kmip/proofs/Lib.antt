@@ -1,0 +1,9 @@
+pub mod RunLaws
+pub mod NumberLaws
+pub mod MemberLaws
+pub mod RowLaws
+pub mod AttributesLaws
+pub mod KeysLaws
+pub mod MessageLaws
+pub mod RequestLaws
+pub mod ReadingLaws

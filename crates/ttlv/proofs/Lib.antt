@@ -1,0 +1,12 @@
+pub mod FrontLaws
+pub mod ListLaws
+pub mod MidLaws
+pub mod ListingLaws
+pub mod ItemsInLaws
+pub mod TreeLaws
+pub mod GoodLaws
+pub mod PutLaws
+pub mod ItemLoopLaws
+pub mod LayLaws
+pub mod WroteLaws
+pub mod WrittenLaws

@@ -1,0 +1,17 @@
+-- `four` meets its contract.
+-- Assumes nothing.
+use borrow.Author.Needs.{needs}
+use native.Mathlib.Omega.{arith}
+use Rattle.rules.specs.Fields.{bigEndian}
+use Rattle.ttlv.proofs.reading.four.Statement.{statement}
+use Rattle.ttlv.proofs.reading.four.Tie as tie
+
+returns : tie.Need-returns
+unfolding bigEndian
+returns c = (omega arith, omega arith)
+
+pub four-spec : {M : Type 1} → statement M
+four-spec =
+    tie.close
+    (tie.spec
+    (λ c. search needs) (λ c. search needs) (λ c. search needs) (λ c. search needs) (λ c. search needs) (λ c. search needs) returns)
