@@ -12,7 +12,7 @@ pub struct Namespace(pub u32);
 pub struct Tag(pub u16);
 
 /// A KeyUID of 1 to 16 bytes and its key, as a frame brings them.
-#[derive(Clone, Copy)]
+#[derive(Clone, Copy, Debug, PartialEq, Eq)]
 pub struct Material<'a> {
     pub uid: &'a [u8],
     pub key: &'a [u8; KEY],

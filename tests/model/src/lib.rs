@@ -9,10 +9,13 @@ mod drive;
 mod frame;
 mod io;
 mod keys;
+pub mod kmip;
 pub mod lines;
 pub mod numbers;
 mod session;
 pub mod status;
+pub mod ttlv;
 
 pub use drive::Drive;
+pub use frame::Material;
 pub use session::{room, session_room};

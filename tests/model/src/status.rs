@@ -27,3 +27,5 @@ pub const STORE: u16 = 0x070D;
 pub const UNSOUND: u16 = 0x070E;
 pub const OUTPUT: u16 = 0x070F;
 pub const DISCOVERY: u16 = 0x0716;
+pub const MESSAGE: u16 = 0x0717;
+pub const MESSAGE_KEY_UID: u16 = 0x0718;
