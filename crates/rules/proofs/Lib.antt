@@ -25,3 +25,4 @@ pub mod Examples
 pub mod TtlvFrontLaws
 pub mod TtlvLaws
 pub mod KmipExamples
+pub mod KmipMessageLaws

@@ -24,3 +24,4 @@ pub mod Ttlv
 pub mod TtlvPromises
 pub mod Kmip
 pub mod KmipExamples
+pub mod KmipMessage
