@@ -25,7 +25,8 @@ firstHas tag end = true
 firstHas tag (value t k v behind) = eqb t tag
 firstHas tag (structure t members behind) = eqb t tag
 
-first-split : (tag : ℕ) (b : Bool) (here behind : Items) → firstHas tag here ≡ b → firstHas tag behind ≡ true → firstHas tag (cond b here behind) ≡ true
+first-split : (tag : ℕ) (b : Bool) (here behind : Items) → firstHas tag here ≡ b → firstHas tag behind ≡ true
+    → firstHas tag (cond b here behind) ≡ true
 first-split tag true here behind e h = e
 first-split tag false here behind e h = h
 
@@ -36,8 +37,8 @@ from-first tag (value t k v behind) = first-split tag (eqb t tag) (value t k v b
 from-first tag (structure t members behind) = first-split tag (eqb t tag) (structure t members behind) (from tag behind) refl (from-first tag behind)
 
 -- a test that passes items of other tags over
-skip : {A : Type 0} (test : Items → A) (b : Bool) (here behind : Items) → (b ≡ false → test here ≡ test behind) → (test behind ≡ test (from Attribute behind))
-    → test here ≡ test (cond b here (from Attribute behind))
+skip : {A : Type 0} (test : Items → A) (b : Bool) (here behind : Items) → (b ≡ false → test here ≡ test behind)
+    → (test behind ≡ test (from Attribute behind)) → test here ≡ test (cond b here (from Attribute behind))
 skip test true here behind over ih = refl
 skip test false here behind over ih = over refl ∙ ih
 
@@ -139,7 +140,8 @@ module _ (xs : List ℕ) (to ns tag : ℕ) (rest : Items) (m : Member) where
     pub others-bad : found .good ≡ false → othersGood ns tag (seen .namespace) (seen .tag) rest ≡ false
     others-bad bad = by-found ∙ ap (λ b. b && left found) bad
 
-    pub others-good : found .good ≡ true → othersGood ns tag (seen .namespace) (seen .tag) rest ≡ othersGood ns tag (found .namespace) (found .tag) (h .behind)
+    pub others-good : found .good ≡ true
+        → othersGood ns tag (seen .namespace) (seen .tag) rest ≡ othersGood ns tag (found .namespace) (found .tag) (h .behind)
     others-good good = by-found ∙ ap (λ b. b && left found) good
 
 -- no Attribute is left
@@ -171,8 +173,8 @@ unfolding lacks
 none-lacks ns tag p q = others-none ns tag p q
 
 -- or something that is no structure has its tag
-pub others-missing : (xs : List ℕ) (to ns tag : ℕ) (p q : Bool) (rest : Items) (m : Member) → Sought xs to Structure (from Attribute rest) m → m .found ≡ false
-    → othersGood ns tag p q rest ≡ lacks Attribute rest && p && q
+pub others-missing : (xs : List ℕ) (to ns tag : ℕ) (p q : Bool) (rest : Items) (m : Member) → Sought xs to Structure (from Attribute rest) m
+    → m .found ≡ false → othersGood ns tag p q rest ≡ lacks Attribute rest && p && q
 others-missing xs to ns tag p q rest m s absent =
     skip-others ns tag p q rest
     ∙ by-first (from Attribute rest) s (from-first Attribute rest)

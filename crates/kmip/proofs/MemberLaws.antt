@@ -79,7 +79,8 @@ module _ (xs : List ℕ) (start at to : ℕ) where
       let j = f .inside .1 in
       ⊎-elim (λ l. (omega arith, omega arith)) (λ l. absurd (omega arith)) since
 
-  pub structure-on : (t n : ℕ) → itemAt xs at to ≡ Structure t n → (start ≤ at) ⊎ (to ≤ at) → (start < at + itemHead + n) × (at + itemHead + n ≤ to)
+  pub structure-on : (t n : ℕ) → itemAt xs at to ≡ Structure t n → (start ≤ at) ⊎ (to ≤ at)
+      → (start < at + itemHead + n) × (at + itemHead + n ≤ to)
   structure-on t n e since =
       let f = item-fronted xs at to (Structure t n) e refl .1 in
       let i = f .inside in

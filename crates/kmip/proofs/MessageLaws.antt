@@ -35,7 +35,8 @@ module _ (xs : List ℕ) (to ns tag : ℕ) (items : Items) (u a p y : Member) (o
     → (b .found ≡ has (KeyBlock holds keyBlock) members)
     × (b .found ≡ true → Runs xs (b .start) (b .next) (membersOf (from KeyBlock members))
     × KeyStands xs (b .key) (bytesOf (from KeyMaterial (membersOf (from KeyValue (membersOf (from KeyBlock members))))))))
-    (told-ae : (parameters block : Items) → Runs xs (p .start) (p .next) parameters → Runs xs (b .start) (b .next) block → ae ≡ aes256 parameters block) where
+    (told-ae : (parameters block : Items) → Runs xs (p .start) (p .next) parameters → Runs xs (b .start) (b .next) block
+    → ae ≡ aes256 parameters block) where
   abbrev f1 : Items
   f1 = from UniqueIdentifier items
 
@@ -57,7 +58,8 @@ module _ (xs : List ℕ) (to ns tag : ℕ) (items : Items) (u a p y : Member) (o
   sought-a : u .found ≡ true → o .good ≡ true → Sought xs to Structure f3 a
   sought-a h i = seek-a (behindOf f2) (row2 h .passes i .1)
 
-  row3 : u .found ≡ true → o .good ≡ true → Stepped xs to f3 (λ more. structureThen (attributes ns tag) more f3) (stepTo (a .found && p .found) (a .next))
+  row3 : u .found ≡ true → o .good ≡ true
+      → Stepped xs to f3 (λ more. structureThen (attributes ns tag) more f3) (stepTo (a .found && p .found) (a .next))
   row3 h i = row-structure xs to a f3 (sought-a h i) (attributes ns tag) (a .found && p .found) (p .found) refl (λ k. told-p (k .members) (k .inner) .0)
 
   sought-y : u .found ≡ true → o .good ≡ true → a .found && p .found ≡ true → Sought xs to Structure f4 y
@@ -130,19 +132,22 @@ module _ (xs : List ℕ) (to ns tag : ℕ) (items : Items) (u a p y : Member) (o
       go false e =
           ap (λ x. x && ae) e ∙ sym (ap (λ x. x && aes256 (parametersIn items) (blockIn items)) (sym rows-are ∙ e))
 
-  pub payload-brought : (r : Load) → r .uid ≡ u .start → r .length ≡ u .length → r .key ≡ b .key → rows && ae ≡ true → Brought xs r (broughtBy items)
+  pub payload-brought : (r : Load) → r .uid ≡ u .start → r .length ≡ u .length → r .key ≡ b .key → rows && ae ≡ true
+      → Brought xs r (broughtBy items)
   payload-brought r e f g all = brought (and-left rows ae all) r e f g
 
 -- ------------------------------------------------------------------------
 -- Two rows: one before, and a structure that brings something
 
-same-places : (xs : List ℕ) (l r : Load) (x : Contents) → r .uid ≡ l .uid → r .length ≡ l .length → r .key ≡ l .key → Brought xs l x → Brought xs r x
+same-places : (xs : List ℕ) (l r : Load) (x : Contents) → r .uid ≡ l .uid → r .length ≡ l .length → r .key ≡ l .key → Brought xs l x
+    → Brought xs r x
 same-places xs l r x e f g h = record { whole = rw (e, f) (h .whole); uid = rw (e, f) (h .uid); key = rw g (h .key) }
 
 module _ (xs : List ℕ) (to last : ℕ) (first : Items) (row : (Items → Bool) → Bool) (o : Step) (step : Stepped xs to first row o) (m : Member) (l : Load)
     (good : Items → Bool) (brings : Items → Contents)
     (seek : (rest : Items) → Runs xs (o .next) to rest → Sought xs to Structure (from last rest) m)
-    (told : (members : Items) → Runs xs (m .start) (m .next) members → (l .good ≡ good members) × (l .good ≡ true → Brought xs l (brings members))) where
+    (told : (members : Items) → Runs xs (m .start) (m .next) members
+    → (l .good ≡ good members) × (l .good ≡ true → Brought xs l (brings members))) where
   sought : o .good ≡ true → Sought xs to Structure (from last (behindOf first)) m
   sought ok = seek (behindOf first) (step .passes ok .1)
 

@@ -92,7 +92,8 @@ by-bool true t f = t refl
 by-bool false t f = f refl
 
 module _ (xs : List ℕ) (to kind : ℕ) (m : Member) (items : Items) (s : Sought xs to kind items m) (valued : kind ≡ Structure → ⊥)
-    (good : List ℕ → Bool) (b g : Bool) (is : b ≡ m .found && g) (tested : HitValue xs to kind items m → g ≡ good (part (m .start) (m .length) xs)) where
+    (good : List ℕ → Bool) (b g : Bool) (is : b ≡ m .found && g)
+    (tested : HitValue xs to kind items m → g ≡ good (part (m .start) (m .length) xs)) where
   then-value : (h : HitValue xs to kind items m) (more : Items → Bool) → valueThen kind good more items ≡ g && more (h .behind)
   unfolding valueThen
   then-value h more =

@@ -90,7 +90,8 @@ fn batch(bytes: &[u8], start: usize, end: usize, ns: usize, tag: usize) -> Load
 // Request Header, first of a message's two members.
 fn headed(bytes: &[u8], start: usize, end: usize) -> Step
     ensures { λ r. ⌜ ((items : Items) → Runs (now (bytes .entry)) start end items
-        → Stepped (now (bytes .entry)) end (from RequestHeader items) (λ more. structureThen (inOrder requestHeader) more (from RequestHeader items)) r) ⌝ }
+        → Stepped (now (bytes .entry)) end (from RequestHeader items)
+        (λ more. structureThen (inOrder requestHeader) more (from RequestHeader items)) r) ⌝ }
 {
     let m = member(bytes, start, end, REQUEST_HEADER, STRUCTURE);
     let next = m.next;

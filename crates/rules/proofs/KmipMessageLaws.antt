@@ -64,8 +64,8 @@ four-bytes : (n : ℕ) → AreBytes (fourBytes n)
 unfolding AreBytes
 four-bytes n = (omega arith, (omega arith, (omega arith, (omega arith, tt))))
 
-fit-value : (tag type : ℕ) (v : List ℕ) (behind : Items) → tag < 2 ^ 24 → isValue type (length v) ≡ true → length v < 2 ^ 32 → AreBytes v → FitItems behind
-    → FitItems (value tag type v behind)
+fit-value : (tag type : ℕ) (v : List ℕ) (behind : Items) → tag < 2 ^ 24 → isValue type (length v) ≡ true → length v < 2 ^ 32 → AreBytes v
+    → FitItems behind → FitItems (value tag type v behind)
 unfolding FitItems
 fit-value tag type v behind a b c d e = (a, b, c, d, e)
 
@@ -86,7 +86,8 @@ fit-enumeration : (tag n : ℕ) (behind : Items) → tag < 2 ^ 24 → FitItems b
 unfolding isValue
 fit-enumeration tag n behind small rest = fit-value tag Enumeration (fourBytes n) behind small refl (omega arith) (four-bytes n) rest
 
-fit-text : (tag : ℕ) (v : List ℕ) (behind : Items) → tag < 2 ^ 24 → length v ≤ uidMost → AreBytes v → FitItems behind → FitItems (value tag Text v behind)
+fit-text : (tag : ℕ) (v : List ℕ) (behind : Items) → tag < 2 ^ 24 → length v ≤ uidMost → AreBytes v → FitItems behind
+    → FitItems (value tag Text v behind)
 unfolding isValue
 fit-text tag v behind small few bytes rest = fit-value tag Text v behind small refl (omega arith) bytes rest
 
@@ -127,7 +128,8 @@ tag-bytes : AreBytes tagName
 unfolding AreBytes
 tag-bytes = (omega arith, (omega arith, (omega arith, (omega arith, (omega arith, (omega arith, tt))))))
 
-fit-attribute : (name : List ℕ) (n : ℕ) (behind : Items) → length name ≤ uidMost → AreBytes name → FitItems behind → FitItems (attribute name n behind)
+fit-attribute : (name : List ℕ) (n : ℕ) (behind : Items) → length name ≤ uidMost → AreBytes name → FitItems behind
+    → FitItems (attribute name n behind)
 unfolding long
 fit-attribute name n behind few bytes rest =
     fit-structure Attribute _ behind (omega arith) (omega arith)

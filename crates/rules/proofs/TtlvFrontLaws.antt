@@ -220,8 +220,13 @@ told-of xs l h =
     on-cond (Told xs) (eqb type Structure) _ _
     (λ t. on-cond (Told xs) (leb n (length rest)) _ _
     (λ e.
-    let ln : length (take n rest) ≡ n = length-take-le n rest (leb-true n (length rest) e) in
-    (rw (ln, take-append-drop n rest, ← eqb-true type Structure t) (hd .is), hd .tag-fits, rw ln (hd .length-fits), bytes-take n rest hr, bytes-drop n rest hr))
+    let ln : length (take n rest) ≡ n = length-take-le n rest (leb-true n (length rest) e) in (
+      rw (ln, take-append-drop n rest, ← eqb-true type Structure t) (hd .is),
+      hd .tag-fits,
+      rw ln (hd .length-fits),
+      bytes-take n rest hr,
+      bytes-drop n rest hr,
+    ))
     (λ e. tt))
     (λ t. on-cond (Told xs) (isValue type n && leb (toEight n) (length rest) && allZero (part n (toEight n - n) rest)) _ _
     (λ e.

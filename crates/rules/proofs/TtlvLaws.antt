@@ -28,7 +28,8 @@ unfolding readBy
 read-step steps d [] h l = absurd (omega arith)
 read-step steps d (x ∷ xs) h l = rw (le-leb d deepest l)
 
-on-value : (r : ℕ → List ℕ → Option Items) (d tag type : ℕ) (v rest : List ℕ) → onFront r d (aValue tag type v rest) ≡ withValue tag type v (r d rest)
+on-value : (r : ℕ → List ℕ → Option Items) (d tag type : ℕ) (v rest : List ℕ)
+    → onFront r d (aValue tag type v rest) ≡ withValue tag type v (r d rest)
 unfolding onFront
 on-value r d tag type v rest = refl
 
@@ -166,7 +167,9 @@ read-told zero d (x ∷ xs) h l = tt
 read-told (suc steps) d [] h l = at-end d l
 read-told (suc steps) d (x ∷ xs) h l =
     on-cond (Holds (Encoded d (x ∷ xs))) (leb d deepest) _ _
-    (λ e. with-front (readBy steps) (λ d′ xs′ h′ l′. read-told steps d′ xs′ h′ l′) d (x ∷ xs) (front (x ∷ xs)) (told (x ∷ xs) h) (leb-true d deepest e))
+    (λ e.
+    with-front
+    (readBy steps) (λ d′ xs′ h′ l′. read-told steps d′ xs′ h′ l′) d (x ∷ xs) (front (x ∷ xs)) (told (x ∷ xs) h) (leb-true d deepest e))
     (λ e. tt)
 
 -- ------------------------------------------------------------------------

@@ -86,7 +86,8 @@ module _ (s : State) (sound : unsound s ≡ false) where
       let n : ℕ = getD (s .registers .counts) ns 0 in
       let most : getD (s .registers .counts) ns 0 ≤ tagsMost = above-none tagsMost (s .registers .counts) (sound-counts s sound) ns in
       let rest : n + (tagsMost - n) ≡ tagsMost = omega arith in
-      let tag : (k : ℕ) → k < tagsMost - n → counted s sound (ns * tagsMost + (n + k)) ≡ n = (λ k l. ap (λ j. getD (s .registers .counts) j 0) (omega arith)) in
+      let tag : (k : ℕ) → k < tagsMost - n → counted s sound (ns * tagsMost + (n + k)) ≡ n =
+      (λ k l. ap (λ j. getD (s .registers .counts) j 0) (omega arith)) in
       rw (le-ltb tagsMost n most)
       (fill-enough slotWidth (ns * tagsMost) n (tagsMost - n) emptied keys (omega arith) (length-zeros slotWidth)
       (λ k l. stays (ns * tagsMost + (n + k)) (omega arith) ∙ behind (ns * tagsMost + (n + k)) (omega arith) (omega (arith, tag k l)))

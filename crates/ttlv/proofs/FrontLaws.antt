@@ -9,7 +9,7 @@ use native.Mathlib.Omega.{arith}
 use lib.ListN.{length, take, drop, getD}
 use lib.Seq.{length-take-le}
 use lib.Dec.{eqb, leb}
-use lib.Seq.{drop-cons, take-take, drop-drop, take-nil}
+use lib.Seq.{take-take, drop-drop, take-nil}
 use borrow.Author.Tests.{le-leb, lt-leb, leb-true, eq-eqb, ne-eqb}
 use Rattle.cells.specs.Cells.{part}
 use Rattle.cells.specs.Predicates.{allZero}
@@ -27,35 +27,6 @@ use Rattle.ttlv.specs.Reading.{Headed, placed, frontAt, itemAt, shown, I
 
 -- ------------------------------------------------------------------------
 -- Bytes of a part
-
-part-next : (a b n : ℕ) (xs : List ℕ) → a < length xs → suc a ≡ b → part a (suc n) xs ≡ getD xs a 0 ∷ part b n xs
-unfolding part
-part-next a b n xs h e = ap (take (suc n)) (drop-cons xs a 0 h) ∙ ap (λ k. getD xs a 0 ∷ take n (drop k xs)) e
-
-part-zero : (a : ℕ) (xs : List ℕ) → part a 0 xs ≡ []
-unfolding part
-part-zero a xs = refl
-
-module _ (xs : List ℕ) (a : ℕ) where
-  pub part-three : a + 3 ≤ length xs → part a 3 xs ≡ getD xs a 0 ∷ getD xs (a + 1) 0 ∷ getD xs (a + 2) 0 ∷ []
-  part-three h =
-      rw (
-        part-next a (a + 1) 2 xs (omega arith) (omega arith),
-        part-next (a + 1) (a + 2) 1 xs (omega arith) (omega arith),
-        part-next (a + 2) (a + 3) 0 xs (omega arith) (omega arith),
-        part-zero (a + 3) xs,
-      )
-
-  pub part-four : a + itemHead ≤ length xs
-      → part (a + 4) 4 xs ≡ getD xs (a + 4) 0 ∷ getD xs (a + 5) 0 ∷ getD xs (a + 6) 0 ∷ getD xs (a + 7) 0 ∷ []
-  part-four h =
-      rw (
-        part-next (a + 4) (a + 5) 3 xs (omega arith) (omega arith),
-        part-next (a + 5) (a + 6) 2 xs (omega arith) (omega arith),
-        part-next (a + 6) (a + 7) 1 xs (omega arith) (omega arith),
-        part-next (a + 7) (a + 8) 0 xs (omega arith) (omega arith),
-        part-zero (a + 8) xs,
-      )
 
 drop-take : (n m : ℕ) (ys : List ℕ) → drop n (take m ys) ≡ take (m - n) (drop n ys)
 drop-take zero m ys = let e : m - 0 ≡ m = omega arith in rw e

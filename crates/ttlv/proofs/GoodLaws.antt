@@ -192,7 +192,8 @@ under-behind d e (i ∷ is) h =
     (λ l. rw (behind-more e i is l) (under-behind d e is (h .2)))
     (λ n. rw (behind-none e i is (omega arith)) h)
 
-depth-tree : (values : List ℕ) (n : ℕ) (is : List Item) (d : ℕ) → d ≤ deepest → length is ≤ n → Under d is → depth (treeBy n values is) + d ≤ deepest
+depth-tree : (values : List ℕ) (n : ℕ) (is : List Item) (d : ℕ) → d ≤ deepest → length is ≤ n → Under d is
+    → depth (treeBy n values is) + d ≤ deepest
 unfolding treeBy Under depth
 depth-tree values zero is d k l u = omega arith
 depth-tree values (suc n) [] d k l u = omega arith

@@ -33,7 +33,8 @@ module _ (is : List Item) (i : ℕ) (w : Item) (step : drop i is ≡ w ∷ drop 
   pub members-fit : (d : ℕ) → roomFor (deeper d (drop (i + 1) is)) ≤ roomFor (drop i is)
   members-fit d = omega (arith, room-more, room-split d (drop (i + 1) is))
 
-  pub good-more : (n most next : ℕ) → goodItem n most w ≡ true → next ≡ mostBehind w → goodFrom n next (drop (i + 1) is) ≡ goodFrom n most (drop i is)
+  pub good-more : (n most next : ℕ) → goodItem n most w ≡ true → next ≡ mostBehind w
+      → goodFrom n next (drop (i + 1) is) ≡ goodFrom n most (drop i is)
   good-more n most next g e = ap (λ k. goodFrom n k (drop (i + 1) is)) e ∙ from-good n most w (drop (i + 1) is) g ∙ ap (goodFrom n most) (sym step)
 
   pub good-stop : (n most : ℕ) → goodItem n most w ≡ false → false ≡ goodFrom n most (drop i is)

@@ -38,7 +38,10 @@ structure-by w i left n e k h = written-structure w _ n k h ∙ ap (λ x. withLe
 room-written : (i : Item) (r : ℕ) → roomOf (withLength i r) ≡ roomOf i
 room-written i r =
     by-cases (ℕ-discrete (i .kind) Structure)
-    (λ e. ap roomOf (sym (written-structure i r r e refl)) ∙ room-structure (item (i .tag) Structure (i .depth) (i .start) r) refl ∙ sym (room-structure i e))
+    (λ e.
+    ap roomOf (sym (written-structure i r r e refl))
+    ∙ room-structure (item (i .tag) Structure (i .depth) (i .start) r) refl
+    ∙ sym (room-structure i e))
     (λ n. ap roomOf (sym (written-value i r n)))
 
 inside-written : (values : List ℕ) (i : Item) (r : ℕ) → Inside values i → Inside values (withLength i r)
@@ -65,7 +68,8 @@ pub record Laying (values : List ℕ) (is : List Item) (out₀ out : List ℕ) (
 pub lay-start : (values : List ℕ) (is : List Item) (out : List ℕ) → Laying values is out out 0 0
 lay-start values is out = record { done = refl; kept = refl; sum = omega arith; same = refl }
 
-pub lay-end : {values : List ℕ} {is : List Item} {out₀ out : List ℕ} {at i : ℕ} → Laying values is out₀ out at i → drop i is ≡ [] → AllInside values is
+pub lay-end : {values : List ℕ} {is : List Item} {out₀ out : List ℕ} {at i : ℕ} → Laying values is out₀ out at i → drop i is ≡ []
+    → AllInside values is
     → LaidOut is values out₀ at out
 lay-end {values} {is} {out₀} {out} {at} {i} l n inside =
     let z = room-end is i n in

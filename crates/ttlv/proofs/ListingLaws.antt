@@ -219,6 +219,7 @@ module _ (xs places : List ℕ) where
           let o = unsound (readItems xs) e in
           sym (rw (le-ltb (length places) (itemPlaces * itemsMost) enough, le-ltb messageMost (length xs) short, o))
 
-      pub read-laid : (n : ℕ) (now : List ℕ) → Laid xs places n now → _≡_ {A = Reading} (record { result = Listed n; places = now }) (readList xs places)
+      pub read-laid : (n : ℕ) (now : List ℕ) → Laid xs places n now
+          → _≡_ {A = Reading} (record { result = Listed n; places = now }) (readList xs places)
       unfolding readList
       read-laid n now e = e ∙ sym (rw (le-ltb (length places) (itemPlaces * itemsMost) enough, le-ltb messageMost (length xs) short))

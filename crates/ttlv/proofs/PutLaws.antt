@@ -94,7 +94,8 @@ value-by v out y w l ey ew =
     ∙ ap (λ a. take (from + n) o′ ++ (a ++ drop (end - (from + n)) (drop (from + n) o′))) wz
     ∙ value-put v out l
 
-pub after-head : (i : Item) (out o : List ℕ) → itemHead ≤ length out → o ≡ head (i .tag) (i .kind) (i .length) ++ drop itemHead out → length o ≡ length out
+pub after-head : (i : Item) (out o : List ℕ) → itemHead ≤ length out → o ≡ head (i .tag) (i .kind) (i .length) ++ drop itemHead out
+    → length o ≡ length out
 after-head i out o h e = ap length e ∙ simp (length-append, length-head, length-drop) (omega arith)
 
 -- an item with a value, by what the callees leave

@@ -14,7 +14,8 @@ use Rattle.ttlv.specs.Writing.{treeOf, writeList}
 
 pub record ListsPromised : Type 0 where
   -- What a reading leaves in the places is, taken for a list, the list of the bytes.
-  pub listed-so : (xs places : List ℕ) (n : ℕ) → readList xs places .result ≡ Listed n → some (itemsIn n (readList xs places .places)) ≡ listAt 1 0 xs
+  pub listed-so : (xs places : List ℕ) (n : ℕ) → readList xs places .result ≡ Listed n
+      → some (itemsIn n (readList xs places .places)) ≡ listAt 1 0 xs
   -- What is written of a list is read back as its tree.
   pub written-back : (items : List ℕ) (count : ℕ) (values out : List ℕ) (n : ℕ) → AreBytes values
       → writeList items count values out .result ≡ Bytes n

@@ -9,7 +9,8 @@ use Prim.Native.Nat.{_+_, _-_, _≤_}
 use Rattle.cells.specs.Cells.{part}
 use Rattle.cells.specs.Predicates.{allZero}
 use Rattle.rules.specs.Ttlv.{itemHead, toEight, isValue, front, frontOf}
-use Rattle.ttlv.proofs.FrontLaws.{front-short, front-run, front-long, front-opens, front-unvalued, front-wide, front-unclean, front-closed, lent-padding}
+use Rattle.ttlv.proofs.FrontLaws.{front-short, front-run, front-long, front-opens, front-unvalued, front-wide, front-unclean}
+use Rattle.ttlv.proofs.FrontLaws.{front-closed, lent-padding}
 use Rattle.ttlv.proofs.reading.front_at.Statement.{statement}
 use Rattle.ttlv.proofs.reading.front_at.Tie as tie
 

@@ -4,7 +4,8 @@ use borrow.Author.Needs.{needs}
 use native.Mathlib.Omega.{arith}
 use mathlib.Core.Path.{refl, sym, ap, _∙_}
 use Rattle.rules.specs.Fields.{bigEndian}
-use Rattle.ttlv.proofs.FrontLaws.{part-three, part-four}
+use Prim.Native.Nat.{_+_}
+use Rattle.cells.proofs.CellsLaws.{part-three, part-four}
 use Rattle.ttlv.proofs.reading.head_at.Statement.{statement}
 use Rattle.ttlv.proofs.reading.head_at.Tie as tie
 
@@ -14,9 +15,12 @@ returns c =
     let s = start .args in
     let t : tie.After-three = search in
     record {
-      tag-is = ap bigEndian (part-three (s .bytes .now) (s .at) (omega arith)) ∙ sym (t .three .ensures);
+      tag-is = ap bigEndian (part-three (s .at) (s .at + 1) (s .at + 2) (s .bytes .now) (omega arith) (omega arith) (omega arith)) ∙ sym (t .three .ensures);
       kind-is = refl;
-      length-is = ap bigEndian (part-four (s .bytes .now) (s .at) (omega arith)) ∙ sym (c .four .ensures .0);
+      length-is =
+          ap bigEndian
+          (part-four (s .at + 4) (s .at + 5) (s .at + 6) (s .bytes .now) (omega arith) (omega arith) (s .at + 7) (omega arith) (omega arith))
+          ∙ sym (c .four .ensures .0);
       length-fits = c .four .ensures .1;
     }
 
