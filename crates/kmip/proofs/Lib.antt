@@ -7,3 +7,5 @@ pub mod KeysLaws
 pub mod MessageLaws
 pub mod RequestLaws
 pub mod ReadingLaws
+pub mod WritingLaws
+pub mod LayingLaws

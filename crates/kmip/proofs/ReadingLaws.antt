@@ -8,11 +8,11 @@ use Prim.Native.Nat.{ℕ, _+_, _-_, _<_, _≤_}
 use native.Mathlib.Omega.{arith}
 use lib.ListN.{length, take, drop}
 use lib.Dec.{eqb, ltb}
-use borrow.Author.Tests.{lt-ltb, le-ltb, ltb-false}
+use borrow.Author.Tests.{lt-ltb, le-ltb, ltb-false, eqb-false}
 use Rattle.cells.specs.Cells.{part}
 use Rattle.cells.proofs.CellsLaws.{length-part, lent-is}
 use Rattle.cells.proofs.CopyingLaws.{copiedTo}
-use Rattle.cells.proofs.PredicatesLaws.{or-right}
+use Rattle.cells.proofs.PredicatesLaws.{or-right, or-left}
 use Rattle.cells.proofs.PartsLaws.{two-parts}
 use Rattle.rules.specs.Numbers.{uidMost, keySize}
 use Rattle.rules.specs.Slots.{Contents}
@@ -42,6 +42,9 @@ module _ (x : Contents) (out : List ℕ) where
 
 pub few-bytes : (n : ℕ) → badUidLength n ≡ false → n ≤ uidMost
 few-bytes n good = ltb-false uidMost n (or-right (eqb n 0) (ltb uidMost n) good)
+
+pub some-bytes : (n : ℕ) → badUidLength n ≡ false → 0 < n
+some-bytes n good = let z : n ≡ 0 → ⊥ = eqb-false n 0 (or-left (eqb n 0) (ltb uidMost n) good) in omega arith
 
 module _ (ns tag : ℕ) (xs out : List ℕ) where
   pub no-room : length out < uidMost + keySize → readMessage ns tag xs out ≡ record { result = NoRoom; out = out }

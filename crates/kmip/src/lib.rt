@@ -1,16 +1,22 @@
 // The profile of a media key's import: what a KMIP message brings to a slot. The rules are in `rules` specs/Kmip.antt.
 ghost use mathlib.Core.Path.{_≡_};
 ghost use Rattle.kmip.specs.Reading.{readMessage};
+ghost use Rattle.kmip.specs.Writing.{writeMessage};
 
 mod attributes;
 mod keys;
 mod members;
 mod message;
 mod rows;
+mod writing;
 
 use message::request;
 use rules::KEY_SIZE;
 use rules::UID_MOST;
+use writing::lay;
+
+// Room for the message of a load with a KeyUID of 16 bytes.
+pub const MESSAGE_ROOM: usize = 408;
 
 // A member by places, if it was found: its value is the `length` bytes from `start` on, and the items behind it begin at `next`; the
 // members of a structure stand from `start` up to there.
@@ -58,6 +64,14 @@ pub enum MessageRead {
     Brings(usize),
 }
 
+// What writing a message comes to: no room, a key of other than 32 bytes, a KeyUID that is empty or too long, or so many bytes.
+pub enum MessageWritten {
+    NoRoom,
+    NoKey,
+    BadKeyUid,
+    Bytes(usize),
+}
+
 // The KeyUID and behind it the key that a message brings to a namespace and a tag, at the front of the output. Where it brings none the
 // output stays.
 pub fn read(bytes: &[u8], ns: usize, tag: usize, out: &mut [u8]) -> MessageRead
@@ -82,4 +96,23 @@ pub fn read(bytes: &[u8], ns: usize, tag: usize, out: &mut [u8]) -> MessageRead
     cells::copy(&mut out[..n], &bytes[uid..uid_end]);
     cells::copy(&mut out[n..end], &bytes[key..key_end]);
     MessageRead::Brings(n)
+}
+
+// The message of a load of this KeyUID and key to a namespace and a tag, at the front of the output. What is refused leaves the output as
+// it was.
+pub fn write(ns: u8, tag: u16, uid: &[u8], key: &[u8], out: &mut [u8]) -> MessageWritten
+    ensures { λ r. ⌜ record { result = r; out = now (out .exit) } ≡ writeMessage ns tag (now (uid .entry)) (now (key .entry)) (now (out .entry)) ⌝ }
+{
+    if out.len() < MESSAGE_ROOM {
+        return MessageWritten::NoRoom;
+    }
+    if key.len() != KEY_SIZE {
+        return MessageWritten::NoKey;
+    }
+    let l = uid.len();
+    if (l == 0) | (l > UID_MOST) {
+        return MessageWritten::BadKeyUid;
+    }
+    let n = lay(ns, tag, uid, key, out);
+    MessageWritten::Bytes(n)
 }

@@ -14,7 +14,8 @@ use Rattle.cells.proofs.CellsLaws.{length-zeros}
 use Rattle.rules.specs.Numbers.{keySize, uidMost}
 use Rattle.rules.specs.Fields.{bigEndian, fourBytes}
 use Rattle.rules.specs.Slots.{Contents, FitKey}
-use Rattle.rules.specs.Ttlv.{Items, end, value, structure, Integer, Enumeration, Text, ByteString, isValue, itemHead, toEight, encode, depth, deepest}
+use Rattle.rules.specs.Ttlv.{Items, end, value, structure, Integer, Enumeration, Text, ByteString, isValue, itemHead, toEight}
+use Rattle.rules.specs.Ttlv.{encode, size, depth, deepest}
 use Rattle.rules.specs.Ttlv.{AreBytes, FitItems, readItems}
 use Rattle.rules.specs.Kmip.{from, valueThen, structureThen, inOrder, lacks, eachVendored, named, isRequest, loadIn, loadOf, broughtBy, payloadIn}
 use Rattle.rules.specs.Kmip.{Attribute, AttributeName, AttributeValue, Attributes, BatchCount, BatchItem, CryptographicAlgorithm}
@@ -42,22 +43,16 @@ brings ns tag x = refl
 -- ------------------------------------------------------------------------
 -- They have an encoding
 
--- the bytes that items take
-unfoldable long : Items → ℕ
-long end = 0
-long (value tag type bytes behind) = itemHead + toEight (length bytes) + long behind
-long (structure tag members behind) = itemHead + long members + long behind
-
-long-is : (items : Items) → length (encode items) ≡ long items
-unfolding encode long
-long-is end = refl
-long-is (value tag type v behind) =
-    let ih = long-is behind in
+pub size-is : (items : Items) → length (encode items) ≡ size items
+unfolding encode size
+size-is end = refl
+size-is (value tag type v behind) =
+    let ih = size-is behind in
     let lz = length-zeros (toEight (length v) - length v) in
     simp (length-append, length-head) (omega arith)
-long-is (structure tag members behind) =
-    let im = long-is members in
-    let ih = long-is behind in
+size-is (structure tag members behind) =
+    let im = size-is members in
+    let ih = size-is behind in
     simp (length-append, length-head) (omega arith)
 
 four-bytes : (n : ℕ) → AreBytes (fourBytes n)
@@ -69,10 +64,10 @@ fit-value : (tag type : ℕ) (v : List ℕ) (behind : Items) → tag < 2 ^ 24 �
 unfolding FitItems
 fit-value tag type v behind a b c d e = (a, b, c, d, e)
 
-fit-structure : (tag : ℕ) (members behind : Items) → tag < 2 ^ 24 → long members < 2 ^ 32 → FitItems members → FitItems behind
+fit-structure : (tag : ℕ) (members behind : Items) → tag < 2 ^ 24 → size members < 2 ^ 32 → FitItems members → FitItems behind
     → FitItems (structure tag members behind)
 unfolding FitItems
-fit-structure tag members behind a b c d = (a, rw (long-is members) b, c, d)
+fit-structure tag members behind a b c d = (a, rw (size-is members) b, c, d)
 
 fit-end : FitItems end
 unfolding FitItems
@@ -130,7 +125,7 @@ tag-bytes = (omega arith, (omega arith, (omega arith, (omega arith, (omega arith
 
 fit-attribute : (name : List ℕ) (n : ℕ) (behind : Items) → length name ≤ uidMost → AreBytes name → FitItems behind
     → FitItems (attribute name n behind)
-unfolding long
+unfolding size
 fit-attribute name n behind few bytes rest =
     fit-structure Attribute _ behind (omega arith) (omega arith)
     (fit-text VendorIdentification vendorName _ (omega arith) (omega arith) vendor-bytes
@@ -138,7 +133,7 @@ fit-attribute name n behind few bytes rest =
     rest
 
 fit-header : (behind : Items) → FitItems behind → FitItems (headerItem behind)
-unfolding long
+unfolding size
 fit-header behind rest =
     fit-structure RequestHeader _ behind (omega arith) (omega arith)
     (fit-structure ProtocolVersion _ _ (omega arith) (omega arith)
@@ -147,7 +142,7 @@ fit-header behind rest =
     rest
 
 fit-attributes : (ns tag : ℕ) (behind : Items) → FitItems behind → FitItems (attributesItem ns tag behind)
-unfolding long
+unfolding size
 fit-attributes ns tag behind rest =
     fit-structure Attributes _ behind (omega arith) (omega arith)
     (fit-structure CryptographicParameters _ _ (omega arith) (omega arith)
@@ -157,7 +152,7 @@ fit-attributes ns tag behind rest =
     rest
 
 fit-key : (key : List ℕ) → length key ≡ keySize → AreBytes key → FitItems (keyItem key)
-unfolding long isValue
+unfolding size isValue
 fit-key key l bytes =
     fit-structure SymmetricKey _ end (omega arith) (omega arith)
     (fit-structure KeyBlock _ end (omega arith) (omega arith)
@@ -168,7 +163,7 @@ fit-key key l bytes =
     fit-end
 
 fit-message : (ns tag : ℕ) (x : Contents) → FitKey x → AreBytes (x .uid) → AreBytes (x .key) → FitItems (messageOf ns tag x)
-unfolding messageOf long
+unfolding messageOf size
 fit-message ns tag x fit uid key =
     let few = fit .short in
     let l = fit .whole in

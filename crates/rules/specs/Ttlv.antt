@@ -62,6 +62,12 @@ encode end = []
 encode (value tag type bytes behind) = head tag type (length bytes) ++ (bytes ++ (padding (length bytes) ++ encode behind))
 encode (structure tag members behind) = head tag Structure (length (encode members)) ++ (encode members ++ encode behind)
 
+-- the bytes that it takes
+unfoldable pub size : Items → ℕ
+size end = 0
+size (value tag type bytes behind) = itemHead + toEight (length bytes) + size behind
+size (structure tag members behind) = itemHead + size members + size behind
+
 -- "structures nested to depth eight, the outermost item being depth one"
 abbrev pub deepest : ℕ
 deepest = 8

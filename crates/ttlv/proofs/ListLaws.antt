@@ -10,12 +10,12 @@ use native.Mathlib.Omega.{arith}
 use lib.ListN.{length}
 use lib.Dec.{leb}
 use borrow.Author.Tests.{lt-leb}
-use Rattle.rules.specs.Ttlv.{Items, end, value, structure, Structure, itemHead, toEight, deepest}
+use Rattle.rules.specs.Ttlv.{Items, end, value, structure, Structure, itemHead, toEight, size, deepest}
 use Rattle.rules.specs.Ttlv.{Front, noItem, aValue, aStructure, front, withValue, withStructure, onFront, readBy, readAt}
 use Rattle.rules.proofs.TtlvFrontLaws.{on-cond, Cut, cut}
 use Rattle.rules.proofs.TtlvLaws.{Holds, read-on}
 use Rattle.ttlv.specs.declared.Item.{Item}
-use Rattle.ttlv.specs.ItemList.{isSome, size, item, listed, listOf, listAt, join}
+use Rattle.ttlv.specs.ItemList.{isSome, item, listed, listOf, listAt, join}
 
 -- ------------------------------------------------------------------------
 -- Items take the bytes that they were read from

@@ -6,7 +6,7 @@ use mathlib.Core.List.{List, [], _∷_, _++_}
 use mathlib.Core.Option.{Option, none, some}
 use Prim.Native.Nat.{ℕ, suc, _+_}
 use lib.ListN.{length}
-use Rattle.rules.specs.Ttlv.{Items, end, value, structure, Structure, itemHead, toEight, readAt}
+use Rattle.rules.specs.Ttlv.{Items, end, value, structure, Structure, itemHead, toEight, size, readAt}
 use Rattle.ttlv.specs.declared.Item.{Item}
 
 abbrev pub isSome : {A : Type 0} → Option A → Bool
@@ -15,12 +15,6 @@ isSome (some a) = true
 
 abbrev pub item : ℕ → ℕ → ℕ → ℕ → ℕ → Item
 item tag type d start n = record { tag = tag; kind = type; depth = d; start = start; length = n }
-
--- the bytes that an encoding takes
-unfoldable pub size : Items → ℕ
-size end = 0
-size (value tag type bytes behind) = itemHead + toEight (length bytes) + size behind
-size (structure tag members behind) = itemHead + size members + size behind
 
 -- the list of items at depth d whose encoding starts at `at`: a structure, its members, and then what is behind it
 unfoldable pub listed : ℕ → ℕ → Items → List Item
