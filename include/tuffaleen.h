@@ -8,12 +8,13 @@
  *     gcc -Iinclude firmware.c target/staticlib/libtuffaleen_c.a
  *
  * It needs memcpy and memset and nothing else of a C library: no heap, no input or output, no threads. A call takes
- * at most 1,000 bytes of stack (the frames in the x86-64 code that rt makes), and what memcpy and memset take.
+ * at most 2,500 bytes of stack (the frames in the x86-64 code that rt makes), and what memcpy and memset take.
  *
- * Keys are worked on where they lie, in the image, and are not copied. A line that brings a key is decoded into 70
- * bytes on the stack, which are zeroed before the call returns. A compiler may drop such stores; in the object code
- * that rt makes (its clang 22, -O3, x86-64) they are there, at the end of drive::act::on_line. What processor
- * registers and the text that you handed over still hold, the library does not wipe.
+ * Keys are worked on where they lie, in the image, and are not copied. A line that brings a key is decoded into 512
+ * bytes on the stack, and what a message brings goes through 48 more; both are zeroed before the call returns. A
+ * compiler may drop such stores; in the object code that rt makes (its clang 22, -O3, x86-64) they are there, at the
+ * end of drive::act::on_line. What processor registers and the text that you handed over still hold, the library does
+ * not wipe.
  *
  * The library keeps nothing between calls. All it knows lies in two buffers of yours:
  *
@@ -69,7 +70,8 @@ extern "C" {
 #define TUFFALEEN_MARKS_BYTES 17408  /* a mark store, exactly */
 #define TUFFALEEN_ANSWER_BYTES 13    /* the output that a call must have room for, for each line but the line 0C */
 #define TUFFALEEN_DISCOVERY_BYTES 229 /* the same for the line 0C, which asks for discovery */
-#define TUFFALEEN_LINE_BYTES 140     /* the longest frame line, without its line feed */
+#define TUFFALEEN_LINE_BYTES 1024    /* the longest frame line, without its line feed */
+#define TUFFALEEN_MESSAGE_BYTES 408  /* the output that tuffaleen_message must have room for */
 
 /*
  * Where things lie in an image. Whoever only calls the functions below does not need these; they serve whoever
@@ -118,8 +120,10 @@ enum tuffaleen_answer {
     TUFFALEEN_OTHER_KEY = 0x070C,           /* a loaded slot has this KeyUID and another key */
     TUFFALEEN_STORE_LENGTH = 0x070D,        /* store not of TUFFALEEN_MARKS_BYTES */
     TUFFALEEN_UNSOUND_STATE = 0x070E,       /* image of another length, or not sound */
-    TUFFALEEN_OUTPUT_TOO_SHORT = 0x070F,    /* less than the lines may need, or fewer places than there are fields */
-    TUFFALEEN_NOT_A_RESPONSE = 0x0716       /* tuffaleen_discovery alone: data that is no discovery response */
+    TUFFALEEN_OUTPUT_TOO_SHORT = 0x070F,    /* less than the lines, the fields or a message may need */
+    TUFFALEEN_NOT_A_RESPONSE = 0x0716,      /* tuffaleen_discovery alone: data that is no discovery response */
+    TUFFALEEN_NOT_A_MESSAGE = 0x0717,       /* no message of a load to this namespace and tag */
+    TUFFALEEN_MESSAGE_KEY_UID = 0x0718      /* a message whose KeyUID has 0 bytes or more than 16 */
 };
 
 /*
@@ -230,6 +234,24 @@ uint16_t tuffaleen_session(uint8_t *image, size_t image_len, uint8_t *marks, siz
  * Else TUFFALEEN_DONE: the numbers stand at the first TUFFALEEN_DISCOVERY_FIELDS places, and what is behind stays.
  */
 uint16_t tuffaleen_discovery(const uint8_t *data, size_t data_len, uint32_t *fields, size_t fields_len);
+
+/*
+ * For an office that sends keys: the KMIP message that brings a KeyUID and a key to a slot (docs/KMIP.md has it item by
+ * item). It needs neither image nor marks. In a frame line the message stands as digits behind 0D, the namespace and
+ * the tag, and the drive takes it for this namespace and this tag only; whether there are such, the drive says.
+ *
+ * The refusals are looked for in this order, and with them nothing is written at `out`, and `*written` is 0:
+ *
+ *   TUFFALEEN_OUTPUT_TOO_SHORT   out_len below TUFFALEEN_MESSAGE_BYTES, however short the KeyUID is
+ *   TUFFALEEN_NOT_A_MESSAGE      key_len other than 32
+ *   TUFFALEEN_MESSAGE_KEY_UID    key_uid_len 0 or above 16
+ *
+ * Else TUFFALEEN_DONE: the message stands at `out`, `*written` is its size, 400 for a KeyUID of up to 8 bytes and 408
+ * for a longer one. The message has the key in the clear: wipe it when it has been sent.
+ */
+uint16_t tuffaleen_message(uint8_t ns, uint16_t tag, const uint8_t *key_uid, size_t key_uid_len,
+                           const uint8_t *key, size_t key_len,
+                           uint8_t *out, size_t out_len, size_t *written);
 
 #ifdef __cplusplus
 }

@@ -17,7 +17,7 @@ use rules::Registers;
 use rules::STORE_SIZE;
 
 // The longest input; what is past it is not read.
-const INPUT: usize = 16384;
+const INPUT: usize = 32768;
 
 // The longest store that is lent: one byte more than the library takes.
 pub const MOST: usize = STORE_SIZE + 1;

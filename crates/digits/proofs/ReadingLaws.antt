@@ -81,7 +81,7 @@ digit-at [] k h = absurd (omega arith)
 digit-at (d ∷ line) zero h = first-is (isDigit d) (firstBad line) h
 digit-at (d ∷ line) (suc k) h = digit-at line k (first-gone (isDigit d) (firstBad line) k h)
 
-bad-fits : (line : List ℕ) → firstBad line ≤ length line
+pub bad-fits : (line : List ℕ) → firstBad line ≤ length line
 unfolding firstBad
 bad-fits [] = omega arith
 bad-fits (d ∷ line) = first-fits (isDigit d) (firstBad line) (length line) (bad-fits line)

@@ -12,7 +12,7 @@ use Rattle.rules.specs.Answers.{answerLine}
 use Rattle.rules.specs.FrameLine.{firstBad, decoded, readLine}
 use Rattle.rules.specs.Call.{written}
 
--- 1 to 140 bytes: a line of any other length is refused unread
+-- 1 to 1,024 bytes: a line of any other length is refused unread
 abbrev pub lineLength : List ℕ → Bool
 lineLength line = not (eqb (length line) 0) && leb (length line) digitsMost
 

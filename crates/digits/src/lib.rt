@@ -144,6 +144,8 @@ fn refusal_number(refusal: Refusal) -> u16
         Refusal::UnsoundState => 0x070E,
         Refusal::OutputTooShort => 0x070F,
         Refusal::NotAResponse => 0x0716,
+        Refusal::InvalidMessage => 0x0717,
+        Refusal::InvalidMessageKeyUid => 0x0718,
     }
 }
 

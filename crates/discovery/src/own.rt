@@ -52,7 +52,7 @@ pub(crate) fn key_per_io() -> KeyPerIo
         scope: 0,
         enabled: 1,
         maximum_key_uid_length: UID_MOST as u16,
-        kmip_key_injection_supported: 0,
+        kmip_key_injection_supported: 1,
         rsa_oaep_supported: 0,
         aes_gcm_supported: 0,
         aes_kw_supported: 0,

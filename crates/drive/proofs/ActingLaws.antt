@@ -3,17 +3,19 @@
 -- Assumes nothing.
 use mathlib.Core.Path.{_≡_, refl, sym, ap, _∙_}
 use mathlib.Core.Bool.{Bool, true, false, not, _&&_, true≢false}
-use mathlib.Core.List.{List, [], _∷_}
-use Prim.Native.Nat.{ℕ, _<_}
+use mathlib.Core.List.{List, [], _∷_, _++_}
+use Prim.Native.Nat.{ℕ, _+_, _-_, _/_, _<_, _≤_}
 use native.Mathlib.Omega.{arith}
-use lib.ListN.{length}
-use Rattle.cells.specs.Cells.{cell}
+use lib.ListN.{length, take, drop, length-append, length-drop}
+use lib.Seq.{take-at, drop-at, length-take-le}
+use Rattle.cells.specs.Cells.{cell, zeros}
 use Rattle.cells.specs.Predicates.{same}
+use Rattle.cells.proofs.CellsLaws.{length-zeros, zeros-join, lent-length-to, back-rest}
 use Rattle.rules.specs.declared.Namespace.{Namespace}
 use Rattle.rules.specs.declared.Tag.{Tag}
 use Rattle.rules.specs.declared.Registers.{Registers}
 use Rattle.rules.specs.declared.Refusal.{Refusal}
-use Rattle.rules.specs.Numbers.{slotWidth, slotPlaces, cacheSize}
+use Rattle.rules.specs.Numbers.{slotWidth, slotPlaces, cacheSize, uidMost, keySize, digitsMost}
 use Rattle.rules.specs.Checks.{_when_, Verdict, passed, refused, firstRefusal, settle, judged}
 use Rattle.rules.specs.Answers.{07·09, 07·0A, 07·0B, 07·0C}
 use Rattle.rules.specs.State.{State, Outcome, refuse, obey}
@@ -26,7 +28,8 @@ use Rattle.rules.proofs.StateLaws.{is-namespace, done}
 use Rattle.rules.proofs.SlotsLaws.{place-small}
 use Rattle.rules.proofs.SoundLaws.{sound-cache}
 use Rattle.rules.proofs.EffectsLaws.{named-slot}
-use Rattle.frames.specs.Reading.{frame, refusal}
+use Rattle.frames.specs.Reading.{frame, refusal, readFrom}
+use Rattle.frames.proofs.StayingLaws.{reading-stays}
 use Rattle.drive.specs.declared.Found.the-variants as found
 use Rattle.drive.specs.Acting.{state, Sound, acted, located, putAt, loadAt, replaceAt, clearAt}
 
@@ -126,3 +129,41 @@ module _ (d : Registers) (keys marks : List ℕ) (ns : Namespace) (tag : Tag) wh
 pub uid-only : (e s r : Bool) → r ≡ not e && s → e ≡ false → s ≡ r
 uid-only true s r h n = absurd (true≢false n)
 uid-only false s r h n = sym h
+
+-- ------------------------------------------------------------------------
+-- The frame of a line: zeros, what reading left, and zeros again
+
+rest-of-zeros : (n m : ℕ) → n ≤ m → drop n (zeros m) ≡ zeros (m - n)
+rest-of-zeros n m h =
+    let e : n + (m - n) ≡ m = omega arith in
+    ap (drop n) (ap zeros (sym e) ∙ sym (zeros-join n (m - n))) ∙ drop-at (zeros n) (zeros (m - n)) n (length-zeros n)
+
+abbrev blank : List ℕ
+blank = zeros (digitsMost / 2)
+
+pub wiped : (line f : List ℕ) (n : ℕ) {z : List ℕ} → length line / 2 ≤ n → 5 + uidMost + keySize ≤ n → n ≤ digitsMost / 2
+    → z ≡ zeros (length (take n f)) → length f ≡ digitsMost / 2 → f ≡ readFrom line blank .frame → z ++ drop n f ≡ blank
+wiped line f n digits loads inside e size left =
+    let k : n + (digitsMost / 2 - n) ≡ digitsMost / 2 = omega arith in
+    let stays : drop n f ≡ zeros (digitsMost / 2 - n) =
+    ap (drop n) left
+    ∙ reading-stays line blank n (λ h. digits) loads (omega (arith, length-zeros (digitsMost / 2)))
+    ∙ rest-of-zeros n (digitsMost / 2) inside in
+    rw (e, length-take-le n f (omega arith), stays) (zeros-join n (digitsMost / 2 - n) ∙ ap zeros k)
+
+-- and the rest, where it was filled
+pub wiped-all : (f : List ℕ) (n : ℕ) {z y : List ℕ} → n ≤ digitsMost / 2 → length f ≡ digitsMost / 2 → z ≡ zeros (length (take n f))
+    → y ≡ zeros (length (take (length (z ++ drop n f) - n) (drop n (z ++ drop n f))))
+    → take n (z ++ drop n f) ++ (y ++ drop (length (z ++ drop n f) - n) (drop n (z ++ drop n f))) ≡ blank
+wiped-all f n {z} {y} inside size e d =
+    let g : List ℕ = z ++ drop n f in
+    let k : n + (digitsMost / 2 - n) ≡ digitsMost / 2 = omega arith in
+    let lz : length z ≡ n = ap length e ∙ length-zeros (length (take n f)) ∙ length-take-le n f (omega arith) in
+    let lg : length g ≡ digitsMost / 2 = length-append z (drop n f) ∙ simp length-drop (omega arith) in
+    let y-is : y ≡ zeros (digitsMost / 2 - n) = d ∙ ap zeros (lent-length-to n (length g) g (omega arith) ∙ ap (λ m. m - n) lg) in
+    let z-is : z ≡ zeros n = e ∙ ap zeros (length-take-le n f (omega arith)) in
+    back-rest n y g
+    ∙ ap (λ t. t ++ y) (take-at z (drop n f) n lz ∙ z-is)
+    ∙ ap (λ t. zeros n ++ t) y-is
+    ∙ zeros-join n (digitsMost / 2 - n)
+    ∙ ap zeros k

@@ -1,23 +1,22 @@
 // One line, on a drive that was found ready: it is read, and its frame acts or its refusal is the answer.
 ghost use mathlib.Core.Path.{_≡_};
-ghost use mathlib.Core.Bool.{true};
 ghost use mathlib.Core.List.{List};
-ghost use Prim.Native.Nat.{ℕ, _+_, _≤_};
+ghost use Prim.Native.Nat.{ℕ, _+_, _/_, _≤_};
 ghost use lib.ListN.{length};
-ghost use Rattle.cells.specs.Cells.{part};
-ghost use Rattle.cells.specs.Predicates.{allZero};
-ghost use Rattle.rules.specs.Numbers.{keySize};
+ghost use Rattle.cells.specs.Cells.{part, zeros};
+ghost use Rattle.rules.specs.Numbers.{keySize, uidMost, digitsMost};
 ghost use Rattle.rules.specs.State.{obey};
 ghost use Rattle.rules.specs.Slots.{FitKey};
 ghost use Rattle.rules.specs.Frames.{contentsAt};
 ghost use Rattle.rules.specs.Order.{step, load as loadRule, replace as replaceRule, discovery as discoveryRule};
-ghost use Rattle.frames.specs.Reading.{meant, Lies};
+ghost use Rattle.frames.specs.Reading.{meant, Lies, readFrom};
 ghost use Rattle.drive.specs.Acting.{state, outcome, Ready, Sound, acted};
 use crate::Answered;
 use crate::answers::refused;
 use crate::boot;
 use crate::io;
 use crate::keys;
+use frames::BROUGHT_MOST;
 use frames::FrameRead;
 use rules::Answer;
 use rules::FRAME_MOST;
@@ -25,6 +24,10 @@ use rules::KEY_SIZE;
 use rules::Namespace;
 use rules::Registers;
 use rules::Tag;
+use rules::UID_MOST;
+
+// The longest frame without a message.
+const REPLACE_MOST: usize = 6 + UID_MOST + UID_MOST + KEY_SIZE;
 
 // A load: its KeyUID lies from byte 5 on, the key behind it.
 fn load(
@@ -107,22 +110,36 @@ fn act(
     }
 }
 
-// A line. Its bytes go to the front of the frame that is lent, and are wiped there: they may hold a key. (Here, behind a reference, the
-// stores stay; in the function that has the frame the compiler drops them.)
+// Zeroes what the reading of a line left in a frame of zeros: it may hold a key. A line that is no longer than a replace may be leaves the
+// rest alone. (Here, behind a reference, the stores stay; in the function that has the frame the compiler drops them.)
+fn wipe(frame: &mut [u8], line: &[u8])
+    requires { ⌜ length (now frame) ≡ digitsMost / 2 ⌝ }
+    ensures { λ _. ⌜ (now (frame .entry) ≡ readFrom (now (line .entry)) (zeros (digitsMost / 2)) .frame
+        → now (frame .exit) ≡ zeros (digitsMost / 2)) ⌝ }
+{
+    cells::fill_zero(&mut frame[..REPLACE_MOST]);
+    if line.len() > 2 * REPLACE_MOST {
+        cells::fill_zero(&mut frame[REPLACE_MOST..]);
+    }
+}
+
+// A line. Its bytes go to the front of the frame of zeros that is lent, and are wiped there; so is what a message brought.
 pub(crate) fn on_line(
     registers: Registers,
     keys: &mut [u8],
     marks: &mut [u8],
     line: &[u8],
     frame: &mut [u8; FRAME_MOST],
+    brought: &mut [u8; BROUGHT_MOST],
 ) -> Answered
-    requires { ⌜ Ready registers (now keys) (now marks) ⌝ }
+    requires { ⌜ Ready registers (now keys) (now marks) × (now frame ≡ zeros (digitsMost / 2)) ⌝ }
     ensures { λ r. ⌜ (outcome r (now (keys .exit)) (now (marks .exit))
         ≡ step (state registers (now (keys .entry)) (now (marks .entry))) (now (line .entry)))
-        × (allZero (now (frame .exit)) ≡ true) ⌝ }
+        × (now (frame .exit) ≡ zeros (digitsMost / 2))
+        × (now (brought .exit) ≡ zeros (uidMost + keySize)) ⌝ }
 {
-    let read = frames::read(line, frame);
+    let read = frames::read(line, frame, brought);
     let told = act(registers, keys, marks, frame, read);
-    cells::fill_zero(frame);
+    wipe(frame, line);
     told
 }

@@ -17,6 +17,7 @@ mod keys;
 mod lines;
 mod running;
 
+use frames::BROUGHT_MOST;
 use rules::Answer;
 use rules::CACHE_SIZE;
 use rules::FRAME_MOST;
@@ -108,7 +109,8 @@ fn on_ready(
         ≡ answered (state registers (now (keys .entry)) (now (marks .entry))) (now (line .entry)) (now (out .entry)) ⌝ }
 {
     let mut frame = [0u8; FRAME_MOST];
-    let told = act::on_line(registers, keys, marks, line, &mut frame);
+    let mut brought = [0u8; BROUGHT_MOST];
+    let told = act::on_line(registers, keys, marks, line, &mut frame, &mut brought);
     let answer = told.answer;
     let registers = told.registers;
     let bytes = digits::write_answer(answer, out);

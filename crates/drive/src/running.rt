@@ -7,11 +7,13 @@ ghost use Rattle.drive.specs.Acting.{state, Ready};
 use crate::SessionReply;
 use crate::act::on_line;
 use crate::lines::next_line;
+use frames::BROUGHT_MOST;
 use rules::Answer;
 use rules::FRAME_MOST;
 use rules::Registers;
 
-// Answers each line; each answer goes to the part of the output that starts where the last one ended. One frame serves all lines.
+// Answers each line; each answer goes to the part of the output that starts where the last one ended. One frame serves all lines, and so do
+// the bytes for what a message brings.
 pub(crate) fn run(
     registers: Registers,
     keys: &mut [u8],
@@ -30,6 +32,7 @@ pub(crate) fn run(
         ≡ allAnswered (state registers (now (keys .entry)) (now (marks .entry))) (now (text .entry)) (now (out .entry)) ⌝ }
 {
     let mut frame = [0u8; FRAME_MOST];
+    let mut brought = [0u8; BROUGHT_MOST];
     let mut registers = registers;
     let mut at = 0;
     let mut lines = 0;
@@ -37,7 +40,14 @@ pub(crate) fn run(
     while at < text.len() {
         let line = next_line(text, at);
         let end = line.end;
-        let told = on_line(registers, keys, marks, &text[at..end], &mut frame);
+        let told = on_line(
+            registers,
+            keys,
+            marks,
+            &text[at..end],
+            &mut frame,
+            &mut brought,
+        );
         registers = told.registers;
         let answer = told.answer;
         bytes += digits::write_answer(answer, &mut out[bytes..]);

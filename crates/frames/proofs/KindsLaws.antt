@@ -120,6 +120,6 @@ past : (k n : ℕ) → NoneTo k n → (k ≡ 0 → ⊥) → n < k
 past k zero r z = omega arith
 past k (suc n) r z = omega (arith, past k n (r .0) z, r .1)
 
-pub no-kind : (f : List ℕ) (k : ℕ) → NoneTo k 12 → (k ≡ 0 → ⊥) → getD (kinds f) k unknownKind ≡ unknownKind
+pub no-kind : (f : List ℕ) (k : ℕ) → NoneTo k 13 → (k ≡ 0 → ⊥) → getD (kinds f) k unknownKind ≡ unknownKind
 unfolding kinds
-no-kind f k r z = List·getD-eq-default (kinds f) unknownKind (past k 12 r z)
+no-kind f k r z = List·getD-eq-default (kinds f) unknownKind (past k 13 r z)

@@ -1,4 +1,6 @@
 pub mod FieldsLaws
 pub mod KindsLaws
 pub mod LineLaws
+pub mod MessageLaws
 pub mod ReadingLaws
+pub mod StayingLaws

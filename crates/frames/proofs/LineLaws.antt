@@ -24,7 +24,7 @@ use Rattle.digits.specs.Digits.{ReadInto, readInto}
 use Rattle.digits.proofs.ReadingLaws.{some-bad, length-decoded}
 use Rattle.frames.specs.declared.FrameRead.{FrameRead}
 use Rattle.frames.specs.declared.FrameRead.the-variants.{Refused}
-use Rattle.frames.specs.Reading.{numbered, readFrom, bytesRead}
+use Rattle.frames.specs.Reading.{numbered, ReadFrom, readAs, readFrom, bytesRead}
 
 -- ------------------------------------------------------------------------
 -- A frame line: all of it is digits, and its bytes go to the front
@@ -94,7 +94,7 @@ module _ (line frame last : List ℕ) (r : LineRead) (n : ℕ)
 
   -- none: no frame line
   pub refused : n ≡ 0 → record { read = Refused 07·01; frame = last } ≡ readFrom line frame
-  unfolding readFrom
+  unfolding readFrom readAs numbered
   refused z =
       let none : isFrameLine line ≡ false = true-or-false (isFrameLine line) (λ e. omega (arith, half e, whole-line line e .some)) in
       rw (none, left)
@@ -111,7 +111,7 @@ module _ (line frame last : List ℕ) (r : LineRead) (n : ℕ)
         ap (take n) (left ∙ frame-of line frame frame-line)
         ∙ take-at (decoded line) _ n (length-decoded line ∙ sym (half frame-line))
 
-    -- some: the numbers of the first n bytes
-    pub read-as : (x : FrameRead) → x ≡ numbered (readFrame (take n last)) → record { read = x; frame = last } ≡ readFrom line frame
-    unfolding readFrom numbered
+    -- some: what the first n bytes are read as
+    pub read-as : (x : ReadFrom) → x ≡ readAs (readFrame (take n last)) last → x ≡ readFrom line frame
+    unfolding readFrom readAs numbered
     read-as x e = rw (e, front, frame-line, ← left)

@@ -1,29 +1,33 @@
 -- What was read, with the bytes that the reading left, stands for the rules'
 -- reading of the line; and its KeyUIDs and keys lie in those bytes.
 -- Assumes nothing.
-use mathlib.Core.Path.{_≡_, refl, ap, _∙_}
+use mathlib.Core.Path.{_≡_, refl, sym, ap, _∙_}
 use mathlib.Core.Bool.{true≢false}
 use mathlib.Core.List.{List, _++_}
-use Prim.Native.Nat.{ℕ, zero, suc, _+_, _≤_}
+use Prim.Native.Nat.{ℕ, zero, suc, _+_, _-_, _/_, _≤_, _<_}
+use native.Mathlib.Nat.{min-le-left}
 use native.Mathlib.Omega.{arith}
-use lib.ListN.{length, getD, take, drop, length-append, length-drop}
-use lib.Seq.{take-append-le, drop-append-le}
+use lib.ListN.{length, getD, take, drop, length-append, length-drop, length-take}
+use lib.Seq.{take-append-le, drop-append-le, take-length, drop-at}
 use borrow.Author.Tests.{eqb-true, not-false}
-use Rattle.cells.specs.Cells.{part}
-use Rattle.cells.proofs.CellsLaws.{length-part}
+use Rattle.cells.specs.Cells.{part, write}
+use Rattle.cells.proofs.CellsLaws.{length-part, part-write-in, part-whole, length-write}
+use Rattle.rules.specs.declared.Namespace.{Namespace}
+use Rattle.rules.specs.declared.Tag.{Tag}
 use Rattle.rules.specs.declared.Refusal.{Refusal}
-use Rattle.rules.specs.Numbers.{keySize}
+use Rattle.rules.specs.Numbers.{uidMost, keySize}
 use Rattle.rules.specs.Checks.{Verdict, passed, refused, firstRefusal, settle, judged, AllPass}
 use Rattle.rules.specs.Fields.{byte}
 use Rattle.rules.specs.FrameLine.{decoded}
-use Rattle.rules.specs.Frames.{Frame, readLoad, readReplace, unknownKind, kinds, readFrame}
+use Rattle.rules.specs.Slots.{Contents, FitKey}
+use Rattle.rules.specs.Frames.{Frame, load, readLoad, readReplace, readMessage, unknownKind, kinds, readFrame}
 use Rattle.rules.specs.Order.{frameOf, readingChecks}
 use Rattle.rules.proofs.ChecksLaws.{then-pass, judged-map}
 use Rattle.rules.proofs.FramesLaws.{Fit, fits}
 use Rattle.digits.specs.Digits.{readInto}
 use Rattle.frames.specs.declared.FrameRead.{FrameRead}
 use Rattle.frames.specs.declared.FrameRead.the-variants.{Refused}
-use Rattle.frames.specs.Reading.{numbersOf, Meant, frame, refusal, meant, ReadFrom, readFrom, Lies}
+use Rattle.frames.specs.Reading.{numbersOf, Meant, frame, refusal, meant, placed, numbered, ReadFrom, readAs, readFrom, Lies}
 use Rattle.frames.proofs.LineLaws.{frame-of}
 
 -- ------------------------------------------------------------------------
@@ -35,6 +39,10 @@ part-append a n d r h =
     ap (take n) (drop-append-le a d r (omega arith))
     ∙ take-append-le n (drop a d) r (simp length-drop (omega arith))
 
+part-behind : (u v : List ℕ) (n : ℕ) → length v ≡ n → part (length u) n (u ++ v) ≡ v
+unfolding part
+part-behind u v n e = ap (take n) (drop-at u v (length u) refl) ∙ rw (← e) (take-length v)
+
 -- ------------------------------------------------------------------------
 -- A frame that passed its checks: its numbers stand for it
 
@@ -42,17 +50,28 @@ record Kept (f : List ℕ) (x : Frame) : Type 0 where
   pub stands : meant f (numbersOf x) ≡ frame x
   pub lying : Lies f (numbersOf x)
 
-module _ (d r : List ℕ) where
-  load-kept : AllPass (readLoad d .checks) → Fit (readLoad d .frame) → Kept (d ++ r) (readLoad d .frame)
-  unfolding readLoad
-  load-kept p fit =
-      let l : ℕ = byte 4 d in
-      let size : length d ≡ 5 + l + keySize = eqb-true _ _ (not-false _ (p .1 .1 .0)) in
-      let counted : length (part 5 l d) ≡ l = length-part 5 l d (omega arith) in
-      let uid : part 5 l (d ++ r) ≡ part 5 l d = part-append 5 l d r (omega arith) in
-      let key : part (5 + l) keySize (d ++ r) ≡ part (5 + l) keySize d = part-append (5 + l) keySize d r (omega arith) in
-      record { stands = rw (counted, uid, key); lying = rw (counted, uid, key) (fit, omega (arith, length-append d r)) }
+-- a write past the end is no longer than what it writes
+write-most : (a n : ℕ) (v xs : List ℕ) → length (write a n v xs) ≤ a + (length v + (length xs - a - n))
+unfolding write
+write-most a n v xs = simp (length-append, length-drop) (omega (arith, length-take a xs, min-le-left a (length xs)))
 
+-- a load's KeyUID and key, wherever they came from, stand from byte 5 on
+load-kept : (f : List ℕ) (ns : Namespace) (tag : Tag) (x : Contents) → FitKey x → 5 + uidMost + keySize < length (placed (load ns tag x) f)
+    → Kept (placed (load ns tag x) f) (load ns tag x)
+load-kept f ns tag x fit room =
+    let l : ℕ = length (x .uid) in
+    let both = x .uid ++ x .key in
+    let short = fit .short in
+    let full : length both ≡ l + keySize = length-append (x .uid) (x .key) ∙ ap (λ n. l + n) (fit .whole) in
+    let most = write-most 5 (l + keySize) both f in
+    let there : 5 + (l + keySize) ≤ length f = omega arith in
+    let uid : part 5 l (write 5 (l + keySize) both f) ≡ x .uid =
+    part-write-in 5 (l + keySize) both f there full 0 l (omega arith) ∙ part-append 0 l (x .uid) (x .key) (omega arith) ∙ part-whole l (x .uid) refl in
+    let key : part (5 + l) keySize (write 5 (l + keySize) both f) ≡ x .key =
+    part-write-in 5 (l + keySize) both f there full l keySize (omega arith) ∙ part-behind (x .uid) (x .key) keySize (fit .whole) in
+    record { stands = rw (uid, key); lying = rw (uid, key) (fit, omega (arith, length-write 5 (l + keySize) both f there full)) }
+
+module _ (d r : List ℕ) where
   replace-kept : AllPass (readReplace d .checks) → Fit (readReplace d .frame) → Kept (d ++ r) (readReplace d .frame)
   unfolding readReplace
   replace-kept p fit =
@@ -71,26 +90,29 @@ module _ (d r : List ℕ) where
 
   -- by the kind
   kind-kept : (k : ℕ) → AllPass (getD (kinds d) k unknownKind .checks) → Fit (getD (kinds d) k unknownKind .frame)
-      → Kept (d ++ r) (getD (kinds d) k unknownKind .frame)
-  unfolding kinds
-  kind-kept zero p fit = absurd (true≢false (p .0))
-  kind-kept (suc zero) p fit = record { stands = refl; lying = tt }
-  kind-kept (suc (suc zero)) p fit = record { stands = refl; lying = tt }
-  kind-kept (suc (suc (suc zero))) p fit = load-kept p fit
-  kind-kept (suc (suc (suc (suc zero)))) p fit = replace-kept p fit
-  kind-kept (suc (suc (suc (suc (suc zero))))) p fit = record { stands = refl; lying = tt }
-  kind-kept (suc (suc (suc (suc (suc (suc zero)))))) p fit = record { stands = refl; lying = tt }
-  kind-kept (suc (suc (suc (suc (suc (suc (suc zero))))))) p fit = record { stands = refl; lying = tt }
-  kind-kept (suc (suc (suc (suc (suc (suc (suc (suc zero)))))))) p fit = record { stands = refl; lying = tt }
-  kind-kept (suc (suc (suc (suc (suc (suc (suc (suc (suc zero))))))))) p fit = record { stands = refl; lying = tt }
-  kind-kept (suc (suc (suc (suc (suc (suc (suc (suc (suc (suc zero)))))))))) p fit = record { stands = refl; lying = tt }
-  kind-kept (suc (suc (suc (suc (suc (suc (suc (suc (suc (suc (suc zero))))))))))) p fit = record { stands = refl; lying = tt }
-  kind-kept (suc (suc (suc (suc (suc (suc (suc (suc (suc (suc (suc (suc zero)))))))))))) p fit = record { stands = refl; lying = tt }
-  kind-kept (suc (suc (suc (suc (suc (suc (suc (suc (suc (suc (suc (suc (suc k))))))))))))) p fit = absurd (true≢false (p .0))
+      → 5 + uidMost + keySize < length (placed (getD (kinds d) k unknownKind .frame) (d ++ r))
+      → Kept (placed (getD (kinds d) k unknownKind .frame) (d ++ r)) (getD (kinds d) k unknownKind .frame)
+  unfolding kinds readLoad readReplace readMessage
+  kind-kept zero p fit room = absurd (true≢false (p .0))
+  kind-kept (suc zero) p fit room = record { stands = refl; lying = tt }
+  kind-kept (suc (suc zero)) p fit room = record { stands = refl; lying = tt }
+  kind-kept (suc (suc (suc zero))) p fit room = load-kept (d ++ r) _ _ _ fit room
+  kind-kept (suc (suc (suc (suc zero)))) p fit room = replace-kept p fit
+  kind-kept (suc (suc (suc (suc (suc zero))))) p fit room = record { stands = refl; lying = tt }
+  kind-kept (suc (suc (suc (suc (suc (suc zero)))))) p fit room = record { stands = refl; lying = tt }
+  kind-kept (suc (suc (suc (suc (suc (suc (suc zero))))))) p fit room = record { stands = refl; lying = tt }
+  kind-kept (suc (suc (suc (suc (suc (suc (suc (suc zero)))))))) p fit room = record { stands = refl; lying = tt }
+  kind-kept (suc (suc (suc (suc (suc (suc (suc (suc (suc zero))))))))) p fit room = record { stands = refl; lying = tt }
+  kind-kept (suc (suc (suc (suc (suc (suc (suc (suc (suc (suc zero)))))))))) p fit room = record { stands = refl; lying = tt }
+  kind-kept (suc (suc (suc (suc (suc (suc (suc (suc (suc (suc (suc zero))))))))))) p fit room = record { stands = refl; lying = tt }
+  kind-kept (suc (suc (suc (suc (suc (suc (suc (suc (suc (suc (suc (suc zero)))))))))))) p fit room = record { stands = refl; lying = tt }
+  kind-kept (suc (suc (suc (suc (suc (suc (suc (suc (suc (suc (suc (suc (suc zero))))))))))))) p fit room = load-kept (d ++ r) _ _ _ fit room
+  kind-kept (suc (suc (suc (suc (suc (suc (suc (suc (suc (suc (suc (suc (suc (suc k)))))))))))))) p fit room = absurd (true≢false (p .0))
 
-  frame-kept : AllPass (readFrame d .checks) → Kept (d ++ r) (readFrame d .frame)
+  frame-kept : AllPass (readFrame d .checks) → 5 + uidMost + keySize < length (placed (readFrame d .frame) (d ++ r))
+      → Kept (placed (readFrame d .frame) (d ++ r)) (readFrame d .frame)
   unfolding readFrame
-  frame-kept p = kind-kept (byte 0 d) p (fits d p)
+  frame-kept p room = kind-kept (byte 0 d) p (fits d p) room
 
 -- ------------------------------------------------------------------------
 -- The line: only what passed every check matters
@@ -103,19 +125,26 @@ lies-passed : (f : List ℕ) (v : Verdict Refusal) (x : FrameRead) → (v ≡ pa
 lies-passed f passed x h = h refl
 lies-passed f (refused q) x h = tt
 
-module _ (line bytes : List ℕ) (r : FrameRead) (f : List ℕ) (e : _≡_ {A = ReadFrom} (record { read = r; frame = f }) (readFrom line bytes)) where
+module _ (line bytes : List ℕ) (r : FrameRead) (f : List ℕ) (room : 5 + uidMost + keySize < length f)
+    (e : _≡_ {A = ReadFrom} (record { read = r; frame = f }) (readFrom line bytes)) where
+  abbrev came : List ℕ
+  came = readInto line bytes .frame
+
   numbers : r ≡ judged (readingChecks line) Refused (numbersOf (frameOf line))
-  unfolding readFrom
+  unfolding readFrom readAs numbered
   numbers = ap (λ (x : ReadFrom). x .read) e
 
-  left : f ≡ readInto line bytes .frame
-  unfolding readFrom
+  left : f ≡ judged (readingChecks line) (λ why. came) (placed (frameOf line) came)
+  unfolding readFrom readAs
   left = ap (λ (x : ReadFrom). x .frame) e
 
   kept : firstRefusal (readingChecks line) ≡ passed → Kept f (frameOf line)
   kept v =
       let p : AllPass (readingChecks line) = then-pass (readingChecks line) v in
-      rw (left, frame-of line bytes (not-false _ (p .0))) (frame-kept (decoded line) _ (p .1))
+      let is = frame-of line bytes (not-false _ (p .0)) in
+      let same : f ≡ placed (frameOf line) (decoded line ++ drop (length line / 2) bytes) =
+      left ∙ ap (λ (w : Verdict Refusal). settle w (λ why. came) (placed (frameOf line) came)) v ∙ ap (placed (frameOf line)) is in
+      rw same (frame-kept (decoded line) _ (p .1) (rw same at room))
 
   pub means : meant f r ≡ judged (readingChecks line) refusal (frame (frameOf line))
   means =

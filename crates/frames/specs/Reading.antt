@@ -1,21 +1,25 @@
 -- A frame as the code has it: the numbers of a frame of the rules, and, with
 -- the bytes that it was read from, the frame that it stands for.
 -- Assumes nothing.
-use mathlib.Core.List.{List}
+use mathlib.Core.List.{List, _++_}
 use Prim.Native.Nat.{ℕ, _+_, _≤_}
-use lib.ListN.{length}
-use Rattle.cells.specs.Cells.{part}
+use lib.ListN.{length, take}
+use Rattle.cells.specs.Cells.{part, write}
 use Rattle.rules.specs.declared.Refusal.{Refusal}
 use Rattle.rules.specs.declared.LineRead.{LineRead}
 use Rattle.rules.specs.declared.LineRead.the-variants as line
 use Rattle.rules.specs.Checks.{judged}
-use Rattle.rules.specs.Numbers.{keySize}
-use Rattle.rules.specs.Answers.{07·02}
+use Rattle.rules.specs.declared.Namespace.{Namespace}
+use Rattle.rules.specs.declared.Tag.{Tag}
+use Rattle.rules.specs.Numbers.{uidMost, keySize}
+use Rattle.rules.specs.Answers.{07·02, 07·17, 07·18}
 use Rattle.rules.specs.Slots.{FitKey}
 use Rattle.rules.specs.Frames.{Frame, Reading, contentsAt}
 use Rattle.rules.specs.Frames as frames
 use Rattle.rules.specs.Order.{frameOf, readingChecks}
 use Rattle.digits.specs.Digits.{readInto}
+use Rattle.kmip.specs.declared.MessageRead.{MessageRead}
+use Rattle.kmip.specs.declared.MessageRead.the-variants.{NoRoom, NoLoad, BadKeyUid, Brings}
 use Rattle.frames.specs.declared.FrameRead.{FrameRead}
 use Rattle.frames.specs.declared.FrameRead.the-variants.{Manage, Release, Load, Replace, ClearOne, ClearAll, Io, SetFeatures, GetFeatures}
 use Rattle.frames.specs.declared.FrameRead.the-variants.{BootWrite, Reset, Discovery, Refused}
@@ -60,16 +64,49 @@ meant f (Refused r) = refusal r
 unfoldable pub numbered : Reading → FrameRead
 numbered reading = judged (reading .checks) Refused (numbersOf (reading .frame))
 
--- what reading a line leaves: the rules' reading of the line, and its bytes at the front of the frame
+-- a load's KeyUID and key stand from byte 5 on, wherever the line had them; the other kinds leave the bytes
+abbrev pub placed : Frame → List ℕ → List ℕ
+placed (frames.load ns tag x) f = write 5 (length (x .uid) + keySize) (x .uid ++ x .key) f
+placed (frames.manage ns tags) f = f
+placed (frames.release ns) f = f
+placed (frames.replace ns tag old x) f = f
+placed (frames.clearOne ns tag) f = f
+placed (frames.clearAll ns) f = f
+placed (frames.io c) f = f
+placed (frames.setFeatures dword11) f = f
+placed frames.getFeatures f = f
+placed (frames.bootWrite partition) f = f
+placed (frames.reset level) f = f
+placed frames.discovery f = f
+placed frames.unknown f = f
+
 pub record ReadFrom : Type 0 where
   pub read : FrameRead
   pub frame : List ℕ
 
-unfoldable pub readFrom : List ℕ → List ℕ → ReadFrom
-readFrom line bytes = record {
-  read = judged (readingChecks line) Refused (numbersOf (frameOf line));
-  frame = readInto line bytes .frame;
+-- a reading as numbers, and the bytes with what an accepted load brings
+unfoldable pub readAs : Reading → List ℕ → ReadFrom
+readAs reading f = record {
+  read = numbered reading;
+  frame = judged (reading .checks) (λ why. f) (placed (reading .frame) f);
 }
+
+-- what reading a line leaves: the rules' reading of the line, and its bytes at the front of the frame
+unfoldable pub readFrom : List ℕ → List ℕ → ReadFrom
+readFrom line bytes = readAs (record { checks = readingChecks line; frame = frameOf line }) (readInto line bytes .frame)
+
+-- what a message comes to, with the bytes it left, as a load
+abbrev pub asLoad : Namespace → Tag → List ℕ → List ℕ → MessageRead → ReadFrom
+asLoad ns tag bytes f NoRoom = record { read = Refused 07·17; frame = f }
+asLoad ns tag bytes f NoLoad = record { read = Refused 07·17; frame = f }
+asLoad ns tag bytes f BadKeyUid = record { read = Refused 07·18; frame = f }
+asLoad ns tag bytes f (Brings l) = record { read = Load ns tag l; frame = write 5 (l + keySize) (take (l + keySize) bytes) f }
+
+abbrev pub Short : MessageRead → Type 0
+Short NoRoom = Unit {0}
+Short NoLoad = Unit {0}
+Short BadKeyUid = Unit {0}
+Short (Brings l) = l ≤ uidMost
 
 -- the bytes of a line that was read, 0 for what is no frame line
 abbrev pub bytesRead : LineRead → ℕ

@@ -1,17 +1,20 @@
 // A frame's bytes by its kind: the length, then the fields.
 ghost use mathlib.Core.Path.{_≡_};
-ghost use Prim.Native.Nat.{_≤_, _<_};
+ghost use Prim.Native.Nat.{_≤_, _<_, _+_};
 ghost use lib.ListN.{length, take, drop};
+ghost use Rattle.cells.specs.Cells.{write};
 ghost use Rattle.rules.specs.Fields.{byte, bytes};
 ghost use Rattle.rules.specs.State.{namespace, keyTag};
 ghost use Rattle.rules.specs.Frames.{manage as Manage, release as Release, clearOne as ClearOne, clearAll as ClearAll, io as Io, setFeatures as SetFeatures};
 ghost use Rattle.rules.specs.Frames.{getFeatures as GetFeatures, bootWrite as BootWrite, reset as Reset, discovery as Discovery};
-ghost use Rattle.rules.specs.Frames.{exactly, readLoad, readReplace, readFrame, commandOf};
-ghost use Rattle.frames.specs.Reading.{numbered};
+ghost use Rattle.rules.specs.Numbers.{uidMost, keySize};
+ghost use Rattle.rules.specs.Frames.{exactly, readLoad, readReplace, readMessage, readFrame, commandOf};
+ghost use Rattle.frames.specs.Reading.{numbered, readAs, asLoad, Short};
 use crate::FrameRead;
 use crate::fields;
 use crate::fields::dword;
 use crate::fields::word;
+use kmip::MessageRead;
 use rules::KEY_SIZE;
 use rules::Namespace;
 use rules::Refusal;
@@ -154,9 +157,57 @@ fn discovery(f: &[u8]) -> FrameRead
     FrameRead::Discovery
 }
 
-// The first byte says which of twelve kinds a frame is.
+// A KeyUID of l bytes and the key behind it, to where a load has them.
+fn place(bytes: &mut [u8], brought: &[u8], l: usize)
+    requires { ⌜ (length (now brought) ≡ uidMost + keySize) × (5 + uidMost + keySize ≤ length (now bytes)) × (l ≤ uidMost) ⌝ }
+    ensures { λ _. ⌜ now (bytes .exit) ≡ write 5 (l + keySize) (take (l + keySize) (now (brought .entry))) (now (bytes .entry)) ⌝ }
+{
+    let size = l + KEY_SIZE;
+    let end = 5 + size;
+    cells::copy(&mut bytes[5..end], &brought[..size]);
+}
+
+// A message that was read: what it brings goes where a load has it.
+fn placed(bytes: &mut [u8], brought: &[u8], ns: Namespace, tag: Tag, told: MessageRead) -> FrameRead
+    requires { ⌜ (length (now brought) ≡ uidMost + keySize) × (5 + uidMost + keySize ≤ length (now bytes)) × Short told ⌝ }
+    ensures { λ r. ⌜ record { read = r; frame = now (bytes .exit) } ≡ asLoad ns tag (now (brought .entry)) (now (bytes .entry)) told ⌝ }
+{
+    match told {
+        MessageRead::NoRoom => FrameRead::Refused(Refusal::InvalidMessage),
+        MessageRead::NoLoad => FrameRead::Refused(Refusal::InvalidMessage),
+        MessageRead::BadKeyUid => FrameRead::Refused(Refusal::InvalidMessageKeyUid),
+        MessageRead::Brings(l) => {
+            place(bytes, brought, l);
+            FrameRead::Load(ns, tag, l)
+        }
+    }
+}
+
+// The message from byte 4 on, by way of bytes that are lent.
+fn through(bytes: &mut [u8], n: usize, brought: &mut [u8]) -> FrameRead
+    requires { ⌜ (4 ≤ n) × (n ≤ length (now bytes)) × (length (now brought) ≡ uidMost + keySize)
+        × (5 + uidMost + keySize ≤ length (now bytes)) ⌝ }
+    ensures { λ r. ⌜ record { read = r; frame = now (bytes .exit) } ≡ readAs (readMessage (take n (now (bytes .entry)))) (now (bytes .entry)) ⌝ }
+{
+    let ns = bytes[1];
+    let tag = word(bytes, 2);
+    let told = kmip::read(&bytes[4..n], ns as usize, tag as usize, brought);
+    placed(bytes, brought, namespace_of(ns), Tag(tag), told)
+}
+
+fn message(bytes: &mut [u8], n: usize, brought: &mut [u8]) -> FrameRead
+    requires { ⌜ (n ≤ length (now bytes)) × (length (now brought) ≡ uidMost + keySize) × (5 + uidMost + keySize ≤ length (now bytes)) ⌝ }
+    ensures { λ r. ⌜ record { read = r; frame = now (bytes .exit) } ≡ readAs (readMessage (take n (now (bytes .entry)))) (now (bytes .entry)) ⌝ }
+{
+    if n < 4 {
+        return FrameRead::Refused(Refusal::WrongLength);
+    }
+    through(bytes, n, brought)
+}
+
+// The first byte says which of the twelve kinds that stay as they lie a frame is.
 fn by_kind(f: &[u8]) -> FrameRead
-    requires { ⌜ 0 < length (now f) ⌝ }
+    requires { ⌜ (0 < length (now f)) × (byte 0 (now f) ≡ 13 → ⊥) ⌝ }
     ensures { λ r. ⌜ r ≡ numbered (readFrame (now (f .entry))) ⌝ }
 {
     let kind = f[0];
@@ -179,9 +230,12 @@ fn by_kind(f: &[u8]) -> FrameRead
 }
 
 // The frame in the first n bytes.
-pub(crate) fn front(bytes: &[u8], n: usize) -> FrameRead
-    requires { ⌜ (0 < n) × (n ≤ length (now bytes)) ⌝ }
-    ensures { λ r. ⌜ r ≡ numbered (readFrame (take n (now (bytes .entry)))) ⌝ }
+pub(crate) fn front(bytes: &mut [u8], n: usize, brought: &mut [u8]) -> FrameRead
+    requires { ⌜ (0 < n) × (n ≤ length (now bytes)) × (length (now brought) ≡ uidMost + keySize) × (5 + uidMost + keySize ≤ length (now bytes)) ⌝ }
+    ensures { λ r. ⌜ record { read = r; frame = now (bytes .exit) } ≡ readAs (readFrame (take n (now (bytes .entry)))) (now (bytes .entry)) ⌝ }
 {
+    if bytes[0] == 0x0D {
+        return message(bytes, n, brought);
+    }
     by_kind(&bytes[..n])
 }

@@ -1,6 +1,9 @@
 // A line read as a frame: its numbers by value, and where in the frame's bytes KeyUIDs and keys lie; or the refusal. Nothing here looks at a
 // state. Every public function is total.
 ghost use mathlib.Core.Path.{_≡_};
+ghost use Prim.Native.Nat.{_+_};
+ghost use Rattle.cells.specs.Cells.{zeros};
+ghost use Rattle.rules.specs.Numbers.{uidMost, keySize};
 ghost use Rattle.frames.specs.Reading.{readFrom, bytesRead};
 
 mod fields;
@@ -8,10 +11,15 @@ mod kinds;
 
 use rules::Command;
 use rules::FRAME_MOST;
+use rules::KEY_SIZE;
 use rules::LineRead;
 use rules::Namespace;
 use rules::Refusal;
 use rules::Tag;
+use rules::UID_MOST;
+
+// A KeyUID and a key, as a message may bring them.
+pub const BROUGHT_MOST: usize = UID_MOST + KEY_SIZE;
 
 // A frame as it was read. A load's KeyUID lies from byte 5 on and has so many bytes; its key lies behind it. A replace's old KeyUID lies
 // from byte 5 on, the new one behind it and a length byte, the key behind that. specs/Reading.antt says what each stands for.
@@ -44,13 +52,28 @@ fn bytes_read(read: LineRead) -> usize
     }
 }
 
-// Reads a line into the front of the frame, 07 01 first, then by its kind.
-pub fn read(line: &[u8], frame: &mut [u8; FRAME_MOST]) -> FrameRead
+// 07 01 first, then by the kind.
+fn by_line(line: &[u8], frame: &mut [u8; FRAME_MOST], brought: &mut [u8; BROUGHT_MOST]) -> FrameRead
     ensures { λ r. ⌜ record { read = r; frame = now (frame .exit) } ≡ readFrom (now (line .entry)) (now (frame .entry)) ⌝ }
 {
     let n = bytes_read(digits::read_line(line, frame));
     if n == 0 {
         return FrameRead::Refused(Refusal::NotAFrameLine);
     }
-    kinds::front(frame, n)
+    kinds::front(frame, n, brought)
+}
+
+// Reads a line into the front of the frame. What a message brings goes through bytes that are lent too, and wiped: they held a key. (Here,
+// behind a reference, the stores stay; in the function that has the bytes the compiler drops them.)
+pub fn read(
+    line: &[u8],
+    frame: &mut [u8; FRAME_MOST],
+    brought: &mut [u8; BROUGHT_MOST],
+) -> FrameRead
+    ensures { λ r. ⌜ (record { read = r; frame = now (frame .exit) } ≡ readFrom (now (line .entry)) (now (frame .entry)))
+        × (now (brought .exit) ≡ zeros (uidMost + keySize)) ⌝ }
+{
+    let read = by_line(line, frame, brought);
+    cells::fill_zero(brought);
+    read
 }

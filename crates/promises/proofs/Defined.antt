@@ -14,6 +14,7 @@ use Rattle.ttlv.proofs.sound.Met as ttlv-sound
 use Rattle.ttlv.proofs.read.Met as ttlv-read
 use Rattle.ttlv.proofs.write.Met as ttlv-write
 use Rattle.kmip.proofs.read.Met as kmip-read
+use Rattle.kmip.proofs.write.Met as kmip-write
 use Rattle.digits.proofs.read_line.Met as digits-read-line
 use Rattle.digits.proofs.number.Met as digits-number
 use Rattle.digits.proofs.write_answer.Met as digits-write-answer
@@ -44,6 +45,7 @@ use Rattle.tuffaleen_c.proofs.tuffaleen_start.Met as tuffaleen-c-start
 use Rattle.tuffaleen_c.proofs.tuffaleen_line.Met as tuffaleen-c-line
 use Rattle.tuffaleen_c.proofs.tuffaleen_session.Met as tuffaleen-c-session
 use Rattle.tuffaleen_c.proofs.tuffaleen_discovery.Met as tuffaleen-c-discovery
+use Rattle.tuffaleen_c.proofs.tuffaleen_message.Met as tuffaleen-c-message
 use Rattle.promises.specs.Defined.{Defined}
 
 pub defined : {M : Type 1} → Defined M
@@ -62,6 +64,7 @@ defined = record {
   ttlv-read-ends = ttlv-read.met;
   ttlv-write-ends = ttlv-write.met;
   kmip-read-ends = kmip-read.met;
+  kmip-write-ends = kmip-write.met;
   digits-read-line-ends = digits-read-line.met;
   digits-number-ends = digits-number.met;
   digits-write-answer-ends = digits-write-answer.met;
@@ -92,4 +95,5 @@ defined = record {
   tuffaleen-c-line-ends = tuffaleen-c-line.met;
   tuffaleen-c-session-ends = tuffaleen-c-session.met;
   tuffaleen-c-discovery-ends = tuffaleen-c-discovery.met;
+  tuffaleen-c-message-ends = tuffaleen-c-message.met;
 }

@@ -16,17 +16,21 @@ use Rattle.digits.specs.Digits.{ReadInto, Wrote}
 use Rattle.drive.specs.declared.Answered.{Answered}
 use Rattle.drive.specs.declared.Reply.{Reply}
 use Rattle.drive.specs.declared.SessionReply.{SessionReply}
+use Rattle.frames.specs.declared.FrameRead.{FrameRead}
 use Rattle.frames.specs.Reading.{ReadFrom}
 use Rattle.tuffaleen_c.specs.Image.{CStarted, CCalled, CSession}
 use Rattle.tuffaleen_c.specs.Host.{CDiscovery}
+use Rattle.tuffaleen_c.specs.Office.{CMessage}
 use Rattle.ttlv.specs.Listing as listing
 use Rattle.ttlv.specs.Writing as writing
 use Rattle.kmip.specs.Reading.{Told}
+use Rattle.kmip.specs.Writing.{Wrote as MessageWrote}
 use Rattle.promises.specs.Tight.{Tight-tuffaleen-c-start, Tight-tuffaleen-c-line, Tight-tuffaleen-c-session}
 use Rattle.promises.specs.Tight.{Tight-cells-fill-zero, Tight-cells-copy, Tight-cells-equal, Tight-cells-all-zero, Tight-cells-zero-part}
 use Rattle.promises.specs.Tight.{Tight-cells-same-part}
 use Rattle.promises.specs.Tight.{Tight-discovery-own-fields, Tight-discovery-write, Tight-discovery-read, Tight-tuffaleen-c-discovery}
-use Rattle.promises.specs.Tight.{Tight-ttlv-item-at, Tight-ttlv-sound, Tight-ttlv-read, Tight-ttlv-write, Tight-kmip-read}
+use Rattle.promises.specs.Tight.{Tight-tuffaleen-c-message}
+use Rattle.promises.specs.Tight.{Tight-ttlv-item-at, Tight-ttlv-sound, Tight-ttlv-read, Tight-ttlv-write, Tight-kmip-read, Tight-kmip-write}
 use Rattle.promises.specs.Tight.{Tight-digits-read-line, Tight-digits-number, Tight-digits-write-answer}
 use Rattle.promises.specs.Tight.{Tight-slots-loaded, Tight-slots-holds-uid, Tight-slots-other-key-allocated, Tight-slots-unsound, Tight-slots-store}
 use Rattle.promises.specs.Tight.{Tight-slots-clear, Tight-slots-clear-all, Tight-slots-clear-up-to, Tight-slots-clear-allocated}
@@ -82,6 +86,9 @@ tight-ttlv-write = (λ κs args. tt, λ κs args r r′ e e′ p q. ap (λ (w : 
 pub tight-kmip-read : Tight-kmip-read
 tight-kmip-read = (λ κs args. tt, λ κs args r r′ e e′ p q. ap (λ (w : Told). (w .result, w .out)) (one p q))
 
+pub tight-kmip-write : Tight-kmip-write
+tight-kmip-write = (λ κs args. tt, λ κs args r r′ e e′ p q. ap (λ (w : MessageWrote). (w .result, w .out)) (one p q))
+
 pub tight-digits-read-line : Tight-digits-read-line
 tight-digits-read-line = (λ κs args. tt, λ κs args r r′ e e′ p q. ap (λ (w : ReadInto). (w .read, w .frame)) (one p q))
 
@@ -91,8 +98,12 @@ tight-digits-number = (λ κs args. tt, λ κs args r r′ e e′ p q. one p q)
 pub tight-digits-write-answer : Tight-digits-write-answer
 tight-digits-write-answer = (λ κs args. tt, λ κs args r r′ e e′ p q. ap (λ (w : Wrote). (w .bytes, w .out)) (one p q))
 
+both-read : {w v : ReadFrom} {b c : List ℕ} → w ≡ v → b ≡ c
+    → _≡_ {A = FrameRead × (List ℕ × List ℕ)} (w .read, (w .frame, b)) (v .read, (v .frame, c))
+both-read e f = cc
+
 pub tight-frames-read : Tight-frames-read
-tight-frames-read = (λ κs args. tt, λ κs args r r′ e e′ p q. ap (λ (w : ReadFrom). (w .read, w .frame)) (one p q))
+tight-frames-read = (λ κs args. tt, λ κs args r r′ e e′ p q. both-read (one (p .0) (q .0)) (one (p .1) (q .1)))
 
 pub tight-slots-loaded : Tight-slots-loaded
 tight-slots-loaded = (λ κs args. tt, λ κs args r r′ e e′ p q. one p q)
@@ -190,3 +201,6 @@ tight-tuffaleen-c-session =
 
 pub tight-tuffaleen-c-discovery : Tight-tuffaleen-c-discovery
 tight-tuffaleen-c-discovery = (λ κs args. tt, λ κs args r r′ e e′ p q. ap (λ (c : CDiscovery). (c .number, c .fields)) (one p q))
+
+pub tight-tuffaleen-c-message : Tight-tuffaleen-c-message
+tight-tuffaleen-c-message = (λ κs args. tt, λ κs args r r′ e e′ p q. ap (λ (c : CMessage). (c .number, (c .bytes, c .out))) (one p q))

@@ -15,6 +15,7 @@ use Rattle.ttlv.proofs.sound.Statement as ttlv-sound
 use Rattle.ttlv.proofs.read.Statement as ttlv-read
 use Rattle.ttlv.proofs.write.Statement as ttlv-write
 use Rattle.kmip.proofs.read.Statement as kmip-read
+use Rattle.kmip.proofs.write.Statement as kmip-write
 use Rattle.digits.proofs.read_line.Statement as digits-read-line
 use Rattle.digits.proofs.number.Statement as digits-number
 use Rattle.digits.proofs.write_answer.Statement as digits-write-answer
@@ -45,6 +46,7 @@ use Rattle.tuffaleen_c.proofs.tuffaleen_start.Statement as tuffaleen-c-start
 use Rattle.tuffaleen_c.proofs.tuffaleen_line.Statement as tuffaleen-c-line
 use Rattle.tuffaleen_c.proofs.tuffaleen_session.Statement as tuffaleen-c-session
 use Rattle.tuffaleen_c.proofs.tuffaleen_discovery.Statement as tuffaleen-c-discovery
+use Rattle.tuffaleen_c.proofs.tuffaleen_message.Statement as tuffaleen-c-message
 
 -- Every public function, run on any arguments, ends and leaves what its contract says: its theorem, as the prover states it.
 pub record Defined (M : Type 1) : Type 2 where
@@ -62,6 +64,7 @@ pub record Defined (M : Type 1) : Type 2 where
   pub ttlv-read-ends : ttlv-read.statement M
   pub ttlv-write-ends : ttlv-write.statement M
   pub kmip-read-ends : kmip-read.statement M
+  pub kmip-write-ends : kmip-write.statement M
   pub digits-read-line-ends : digits-read-line.statement M
   pub digits-number-ends : digits-number.statement M
   pub digits-write-answer-ends : digits-write-answer.statement M
@@ -92,3 +95,4 @@ pub record Defined (M : Type 1) : Type 2 where
   pub tuffaleen-c-line-ends : tuffaleen-c-line.statement M
   pub tuffaleen-c-session-ends : tuffaleen-c-session.statement M
   pub tuffaleen-c-discovery-ends : tuffaleen-c-discovery.statement M
+  pub tuffaleen-c-message-ends : tuffaleen-c-message.statement M

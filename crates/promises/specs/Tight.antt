@@ -33,6 +33,7 @@ use Rattle.ttlv.specs.declared.Front.{Front}
 use Rattle.ttlv.specs.declared.ListRead.{ListRead}
 use Rattle.ttlv.specs.declared.Written.{Written}
 use Rattle.kmip.specs.declared.MessageRead.{MessageRead}
+use Rattle.kmip.specs.declared.MessageWritten.{MessageWritten}
 use Rattle.discovery.proofs.own_fields.Reads as discovery-own-fields
 use Rattle.discovery.proofs.write.Reads as discovery-write
 use Rattle.discovery.proofs.read.Reads as discovery-read
@@ -41,6 +42,7 @@ use Rattle.ttlv.proofs.sound.Reads as ttlv-sound
 use Rattle.ttlv.proofs.read.Reads as ttlv-read
 use Rattle.ttlv.proofs.write.Reads as ttlv-write
 use Rattle.kmip.proofs.read.Reads as kmip-read
+use Rattle.kmip.proofs.write.Reads as kmip-write
 use Rattle.digits.proofs.read_line.Reads as digits-read-line
 use Rattle.digits.proofs.number.Reads as digits-number
 use Rattle.digits.proofs.write_answer.Reads as digits-write-answer
@@ -71,6 +73,7 @@ use Rattle.tuffaleen_c.proofs.tuffaleen_start.Reads as tuffaleen-c-start
 use Rattle.tuffaleen_c.proofs.tuffaleen_line.Reads as tuffaleen-c-line
 use Rattle.tuffaleen_c.proofs.tuffaleen_session.Reads as tuffaleen-c-session
 use Rattle.tuffaleen_c.proofs.tuffaleen_discovery.Reads as tuffaleen-c-discovery
+use Rattle.tuffaleen_c.proofs.tuffaleen_message.Reads as tuffaleen-c-message
 
 -- A function's contract as its callers know it: `asks` is what they must show of the arguments; `tells` what they learn of the arguments,
 -- the result, and what was lent as it is at the exit (exit .0 for the first parameter, exit .1 .0 for the second, and so on). `left` puts
@@ -130,6 +133,10 @@ Tight-ttlv-write = Tight {Left = Written × List ℕ} ttlv-write.Asked ttlv-writ
 abbrev pub Tight-kmip-read : Type 0
 Tight-kmip-read = Tight {Left = MessageRead × List ℕ} kmip-read.Asked kmip-read.Learnt (λ κs result exit. (result, now (exit .1 .1 .1 .0)))
 
+abbrev pub Tight-kmip-write : Type 0
+Tight-kmip-write =
+    Tight {Left = MessageWritten × List ℕ} kmip-write.Asked kmip-write.Learnt (λ κs result exit. (result, now (exit .1 .1 .1 .1 .0)))
+
 abbrev pub Tight-digits-read-line : Type 0
 Tight-digits-read-line = Tight {Left = LineRead × List ℕ} digits-read-line.Asked digits-read-line.Learnt (λ κs result exit. (result, now (exit .1 .0)))
 
@@ -140,7 +147,9 @@ abbrev pub Tight-digits-write-answer : Type 0
 Tight-digits-write-answer = Tight {Left = ℕ × List ℕ} digits-write-answer.Asked digits-write-answer.Learnt (λ κs result exit. (result, now (exit .1 .0)))
 
 abbrev pub Tight-frames-read : Type 0
-Tight-frames-read = Tight {Left = FrameRead × List ℕ} frames-read.Asked frames-read.Learnt (λ κs result exit. (result, now (exit .1 .0)))
+Tight-frames-read =
+    Tight {Left = FrameRead × (List ℕ × List ℕ)} frames-read.Asked frames-read.Learnt
+    (λ κs result exit. (result, (now (exit .1 .0), now (exit .1 .1 .0))))
 
 abbrev pub Tight-slots-loaded : Type 0
 Tight-slots-loaded = Tight {Left = Bool} slots-loaded.Asked slots-loaded.Learnt (λ κs result exit. result)
@@ -244,3 +253,8 @@ Tight-tuffaleen-c-session =
 abbrev pub Tight-tuffaleen-c-discovery : Type 0
 Tight-tuffaleen-c-discovery =
     Tight {Left = ℕ × List ℕ} tuffaleen-c-discovery.Asked tuffaleen-c-discovery.Learnt (λ κs result exit. (result, now (exit .1 .0)))
+
+abbrev pub Tight-tuffaleen-c-message : Type 0
+Tight-tuffaleen-c-message =
+    Tight {Left = ℕ × (ℕ × List ℕ)} tuffaleen-c-message.Asked tuffaleen-c-message.Learnt
+    (λ κs result exit. (result, (now (exit .1 .1 .1 .1 .1 .0), now (exit .1 .1 .1 .1 .0))))

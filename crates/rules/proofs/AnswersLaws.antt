@@ -17,7 +17,7 @@ use Rattle.rules.specs.declared.Refusal.the-variants.{InvalidOpcode, Inv
 use Rattle.rules.specs.declared.Refusal.the-variants.{BlocksOutOfRange, LockNotChangeable, BootWriteProhibited, NotAFrameLine, UnknownKind}
 use Rattle.rules.specs.declared.Refusal.the-variants.{WrongLength, BadKeyUidLength, AlreadyManaged, NotManaged, BadTagCount, PoolTooSmall}
 use Rattle.rules.specs.declared.Refusal.the-variants.{SlotOccupied, SlotEmpty, OtherOldKeyUid, OtherKey, WrongStore, UnsoundState}
-use Rattle.rules.specs.declared.Refusal.the-variants.{OutputTooShort, NotAResponse}
+use Rattle.rules.specs.declared.Refusal.the-variants.{OutputTooShort, NotAResponse, InvalidMessage, InvalidMessageKeyUid}
 use Rattle.rules.specs.declared.Answer.{Answer}
 use Rattle.rules.specs.declared.Answer.the-variants.{Done, LockStates, Discovery, Refused}
 use Rattle.cells.specs.Cells.{zeros}
@@ -75,7 +75,7 @@ digits-then (b ∷ bs) (c ∷ cs) xs ys e =
 
 -- the refusal of the list with this number; the table's last where there is none
 named : List Refusal → ℕ → Refusal
-named [] n = NotAResponse
+named [] n = InvalidMessageKeyUid
 named (r ∷ more) n = cond (eqb (refusalNumber r) n) r (named more n)
 
 refusalOf : ℕ → Refusal
@@ -83,7 +83,8 @@ refusalOf n =
     named
     (InvalidOpcode ∷ InvalidField ∷ InvalidNamespace ∷ InvalidKeyTag ∷ IncorrectKey ∷ BlocksOutOfRange ∷ LockNotChangeable ∷ BootWriteProhibited
     ∷ NotAFrameLine ∷ UnknownKind ∷ WrongLength ∷ BadKeyUidLength ∷ AlreadyManaged ∷ NotManaged ∷ BadTagCount ∷ PoolTooSmall
-    ∷ SlotOccupied ∷ SlotEmpty ∷ OtherOldKeyUid ∷ OtherKey ∷ WrongStore ∷ UnsoundState ∷ OutputTooShort ∷ [])
+    ∷ SlotOccupied ∷ SlotEmpty ∷ OtherOldKeyUid ∷ OtherKey ∷ WrongStore ∷ UnsoundState ∷ OutputTooShort ∷ NotAResponse
+    ∷ InvalidMessage ∷ [])
     n
 
 named-back : (r : Refusal) → refusalOf (refusalNumber r) ≡ r
@@ -112,6 +113,8 @@ named-back WrongStore = refl
 named-back UnsoundState = refl
 named-back OutputTooShort = refl
 named-back NotAResponse = refl
+named-back InvalidMessage = refl
+named-back InvalidMessageKeyUid = refl
 
 same-refusal : (q r : Refusal) → refusalNumber q ≡ refusalNumber r → q ≡ r
 same-refusal q r e = cc (named-back q, named-back r)
@@ -120,8 +123,8 @@ same-refusal q r e = cc (named-back q, named-back r)
 pub some-number : (r : Refusal) → 0 ≡ refusalNumber r → ⊥
 unfolding refusalOf named
 some-number r e =
-    let last : NotAResponse ≡ r = ap refusalOf e ∙ named-back r in
-    let n : 0x0716 ≡ refusalNumber r = ap refusalNumber last in
+    let last : InvalidMessageKeyUid ≡ r = ap refusalOf e ∙ named-back r in
+    let n : 0x0718 ≡ refusalNumber r = ap refusalNumber last in
     omega arith
 
 -- the data bytes, read as a frame's numbers are

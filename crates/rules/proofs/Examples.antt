@@ -7,12 +7,14 @@ use Rattle.cells.specs.Cells.{part, write, zeros, copies, cell, put, fill}
 use Rattle.cells.specs.Predicates.{same, allZero, someFrom, someCell}
 use Rattle.rules.specs.Discovery.{headerBytes, tperBytes, keyPerIoBytes, response, ownHeader, ownTper, ownKeyPerIo, ownFields}
 use Rattle.rules.specs.Answers.{digitsOf, answerLine}
-use Rattle.rules.specs.Fields.{little}
+use Rattle.rules.specs.Fields.{little, bigEndian}
+use Rattle.rules.specs.Ttlv.{isValue, frontOf, front, withValue, withStructure, onFront, readBy, readAt}
+use Rattle.rules.specs.Kmip.{from, valueThen, structureThen, inOrder, lacks, eachVendored, named, isRequest, loadIn}
 use Rattle.rules.specs.FrameLine.{firstBad, decoded, lineChecks, readLine}
 use Rattle.rules.specs.Slots.{padded, slotBytes, uidOf, keyOf, held, otherKeyIn, otherKey}
 use Rattle.rules.specs.Marks.{keptIdentity}
 use Rattle.rules.specs.Sound.{someAbove, slotUnsound, unsound}
-use Rattle.rules.specs.Frames.{commandOf, readLoad, readReplace, kinds, readFrame}
+use Rattle.rules.specs.Frames.{commandOf, readLoad, readReplace, readMessage, kinds, readFrame}
 use Rattle.rules.specs.Effects.{setCount, storeKey, emptySlot, emptySlots, emptyAllSlots, zeroMarks, markCovered}
 use Rattle.rules.specs.Order.{manage, release, clearAll, load, replace, clearOne, wrongKey, command}
 use Rattle.rules.specs.Order.{setFeatures, getFeatures, bootWrite, reset, discovery}
@@ -29,5 +31,6 @@ unfolding part write zeros copies cell put fill same allZero someFrom someCell d
     storeKey emptySlot emptySlots emptyAllSlots zeroMarks markCovered manage release clearAll load replace clearOne wrongKey command setFeatures
     headerBytes tperBytes keyPerIoBytes response ownHeader ownTper ownKeyPerIo ownFields
     getFeatures bootWrite reset discovery frameRule lineRule freshRegisters roomFor unanswered answered call linesOf endState answersTo answerLines roomForAll
-    noSession allAnswered session codes rightOn allRightOn table sessionRight
+    readMessage bigEndian isValue frontOf front withValue withStructure onFront readBy readAt from valueThen structureThen inOrder lacks eachVendored named
+    isRequest loadIn noSession allAnswered session codes rightOn allRightOn table sessionRight
 examples-right = (all-right-on table ∙ refl, refl)

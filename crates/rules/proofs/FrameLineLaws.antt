@@ -15,7 +15,7 @@ use Rattle.rules.specs.Checks.{_when_, judged, AllPass}
 use Rattle.rules.specs.Answers.{digitOf}
 use Rattle.rules.specs.FrameLine.{isDigit, valueOf, firstBad, decoded, lineChecks, readLine, isBytes, isFrameLine}
 use Rattle.rules.specs.Fields.{byte}
-use Rattle.rules.specs.Frames.{discovery, readLoad, readReplace, kinds, readFrame, unknownKind}
+use Rattle.rules.specs.Frames.{discovery, readLoad, readReplace, readMessage, kinds, readFrame, unknownKind}
 use Rattle.rules.specs.Order.{frameOf, readingChecks}
 use Rattle.rules.specs.Call.{discoveryLine}
 
@@ -66,7 +66,7 @@ three-not a b c h = by (firstBad (a ∷ b ∷ c ∷ [])) (ltb (firstBad (a ∷ b
 
 -- the kind of discovery
 kind-of : (f : List ℕ) (k : ℕ) → getD (kinds f) k unknownKind .frame ≡ discovery → k ≡ 12
-unfolding kinds readLoad readReplace
+unfolding kinds readLoad readReplace readMessage
 kind-of f zero e = cc
 kind-of f (suc zero) e = cc
 kind-of f (suc (suc zero)) e = cc
@@ -80,7 +80,8 @@ kind-of f (suc (suc (suc (suc (suc (suc (suc (suc (suc zero))))))))) e = cc
 kind-of f (suc (suc (suc (suc (suc (suc (suc (suc (suc (suc zero)))))))))) e = cc
 kind-of f (suc (suc (suc (suc (suc (suc (suc (suc (suc (suc (suc zero))))))))))) e = cc
 kind-of f (suc (suc (suc (suc (suc (suc (suc (suc (suc (suc (suc (suc zero)))))))))))) e = refl
-kind-of f (suc (suc (suc (suc (suc (suc (suc (suc (suc (suc (suc (suc (suc k))))))))))))) e = cc
+kind-of f (suc (suc (suc (suc (suc (suc (suc (suc (suc (suc (suc (suc (suc zero))))))))))))) e = cc
+kind-of f (suc (suc (suc (suc (suc (suc (suc (suc (suc (suc (suc (suc (suc (suc k)))))))))))))) e = cc
 
 one-byte : (f : List ℕ) (k : ℕ) → k ≡ 12 → AllPass (getD (kinds f) k unknownKind .checks) → length f ≡ 1
 unfolding kinds readLoad readReplace

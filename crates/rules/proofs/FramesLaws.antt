@@ -5,7 +5,7 @@ use mathlib.Core.Bool.{false}
 use mathlib.Core.List.{List}
 use Prim.Native.Nat.{ℕ, zero, suc, _+_, _≤_}
 use native.Mathlib.Omega.{arith}
-use lib.ListN.{length, getD}
+use lib.ListN.{length, getD, drop}
 use lib.Dec.{eqb}
 use borrow.Author.Tests.{eqb-true, eqb-false, ltb-false, not-false}
 use Rattle.cells.specs.Cells.{part}
@@ -13,10 +13,13 @@ use Rattle.cells.proofs.CellsLaws.{length-part}
 use Rattle.cells.proofs.PredicatesLaws.{or-left, or-right}
 use Rattle.rules.specs.Numbers.{uidMost, keySize}
 use Rattle.rules.specs.Checks.{AllPass}
-use Rattle.rules.specs.Fields.{byte}
+use Rattle.rules.specs.Fields.{byte, bytes}
+use Rattle.rules.specs.Kmip.{loadOf}
 use Rattle.rules.specs.Slots.{FitKey}
 use Rattle.rules.specs.Frames.{Frame, manage, release, load, replace, clearOne, clearAll, io, setFeatures, getFeatures, bootWrite, reset, discovery}
-use Rattle.rules.specs.Frames.{unknown, badUidLength, contentsAt, readLoad, readReplace, unknownKind, kinds, readFrame}
+use Rattle.rules.specs.Frames.{unknown, badUidLength, contentsAt, readLoad, readReplace, readMessage, unknownKind, kinds, readFrame}
+use Rattle.rules.specs.Frames.{bringsNothing, brought}
+use Rattle.rules.proofs.KmipLaws.{load-key}
 
 abbrev pub Fit : Frame → Type 0
 Fit (manage ns tags) = Unit {0}
@@ -49,6 +52,16 @@ replace-fits : (f : List ℕ) → AllPass (readReplace f .checks) → Fit (readR
 unfolding readReplace
 replace-fits f p = fit-at f (6 + byte 4 f) (byte (5 + byte 4 f) f) (p .1 .1 .1 .0) (eqb-true _ _ (not-false _ (p .1 .1 .1 .1 .0)))
 
+-- a message brings a key of 32 bytes
+message-fits : (f : List ℕ) → AllPass (readMessage f .checks) → Fit (readMessage f .frame)
+unfolding readMessage
+message-fits f p =
+    let x = brought (loadOf (byte 1 f) (bytes 2 3 f) (drop 4 f)) in
+    let b = p .1 .1 .0 in
+    let n : length (x .uid) ≡ 0 → ⊥ = eqb-false (length (x .uid)) 0 (or-left _ _ b) in
+    let m : length (x .uid) ≤ uidMost = ltb-false uidMost (length (x .uid)) (or-right (eqb (length (x .uid)) 0) _ b) in
+    record { some = omega arith; short = m; whole = load-key (byte 1 f) (bytes 2 3 f) (drop 4 f) (p .1 .0) }
+
 -- by the kind
 kind-fits : (f : List ℕ) (k : ℕ) → AllPass (getD (kinds f) k unknownKind .checks) → Fit (getD (kinds f) k unknownKind .frame)
 unfolding kinds
@@ -65,7 +78,8 @@ kind-fits f (suc (suc (suc (suc (suc (suc (suc (suc (suc zero))))))))) p = tt
 kind-fits f (suc (suc (suc (suc (suc (suc (suc (suc (suc (suc zero)))))))))) p = tt
 kind-fits f (suc (suc (suc (suc (suc (suc (suc (suc (suc (suc (suc zero))))))))))) p = tt
 kind-fits f (suc (suc (suc (suc (suc (suc (suc (suc (suc (suc (suc (suc zero)))))))))))) p = tt
-kind-fits f (suc (suc (suc (suc (suc (suc (suc (suc (suc (suc (suc (suc (suc k))))))))))))) p = tt
+kind-fits f (suc (suc (suc (suc (suc (suc (suc (suc (suc (suc (suc (suc (suc zero))))))))))))) p = message-fits f p
+kind-fits f (suc (suc (suc (suc (suc (suc (suc (suc (suc (suc (suc (suc (suc (suc k)))))))))))))) p = tt
 
 pub fits : (f : List ℕ) → AllPass (readFrame f .checks) → Fit (readFrame f .frame)
 unfolding readFrame

@@ -7,6 +7,7 @@ pub mod DiscoveryLaws
 pub mod FeaturesLaws
 pub mod PlacesLaws
 pub mod InsertedLaws
+pub mod KmipLaws
 pub mod FramesLaws
 pub mod SlotsLaws
 pub mod SoundLaws

@@ -77,6 +77,8 @@ numbers-as-named = record {
   is-07·0E = refl;
   is-07·0F = refl;
   is-07·16 = refl;
+  is-07·17 = refl;
+  is-07·18 = refl;
 }
 
 longer-unfed : (b : ℕ) (text : List ℕ) → EndsUnfed text → EndsUnfed (b ∷ text)

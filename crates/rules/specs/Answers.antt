@@ -10,7 +10,7 @@ use Rattle.rules.specs.declared.Refusal.the-variants.{InvalidOpcode, Inv
 use Rattle.rules.specs.declared.Refusal.the-variants.{BlocksOutOfRange, LockNotChangeable, BootWriteProhibited, NotAFrameLine, UnknownKind}
 use Rattle.rules.specs.declared.Refusal.the-variants.{WrongLength, BadKeyUidLength, AlreadyManaged, NotManaged, BadTagCount, PoolTooSmall}
 use Rattle.rules.specs.declared.Refusal.the-variants.{SlotOccupied, SlotEmpty, OtherOldKeyUid, OtherKey, WrongStore, UnsoundState}
-use Rattle.rules.specs.declared.Refusal.the-variants.{OutputTooShort, NotAResponse}
+use Rattle.rules.specs.declared.Refusal.the-variants.{OutputTooShort, NotAResponse, InvalidMessage, InvalidMessageKeyUid}
 use Rattle.rules.specs.declared.Answer.{Answer}
 use Rattle.rules.specs.declared.Answer.the-variants.{Done, LockStates, Discovery, Refused}
 use Rattle.rules.specs.Discovery.{response, ownFields}
@@ -40,6 +40,8 @@ refusalNumber WrongStore = 0x070D
 refusalNumber UnsoundState = 0x070E
 refusalNumber OutputTooShort = 0x070F
 refusalNumber NotAResponse = 0x0716
+refusalNumber InvalidMessage = 0x0717
+refusalNumber InvalidMessageKeyUid = 0x0718
 
 abbrev pub number : Answer → ℕ
 number Done = 0x0000
@@ -170,3 +172,9 @@ abbrev pub 07·0F : Refusal
 
 abbrev pub 07·16 : Refusal
 07·16 = NotAResponse
+
+abbrev pub 07·17 : Refusal
+07·17 = InvalidMessage
+
+abbrev pub 07·18 : Refusal
+07·18 = InvalidMessageKeyUid

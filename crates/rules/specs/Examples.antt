@@ -1,7 +1,7 @@
 -- "Bench examples": P1 to P10 and the paper's session as one table, lines and
--- answers in the paper's own digits; D1 for discovery, M1 for whole KeyUIDs. Each
--- row starts from a fresh drive and each line is a whole call with just the room
--- that it asks.
+-- answers in the paper's own digits; D1 for discovery, M1 for whole KeyUIDs, K1 to
+-- K3 for loads in KMIP form. Each row starts from a fresh drive and each line is a
+-- whole call with just the room that it asks.
 -- Assumes nothing.
 use mathlib.Core.Path.{_≡_}
 use mathlib.Core.Bool.{Bool, true, _&&_}
@@ -72,8 +72,37 @@ discoveryAnswer =
     ⁀ "0000006C000000010000000000000000"
     ⁀ "0000000000000000000000000000000000000000000000000000000000000000"
     ⁀ "0001100C000000000000000000000000"
-    ⁀ "0305102C0000000000000000000000000D001000000000000000000000000000"
+    ⁀ "0305102C0000000000000000000000000D001001000000000000000000000000"
     ⁀ "00000000000001000080000000000000"
+
+-- a message of a load of key K to namespace 1, tag 0, by the lengths of Request Message, Batch Item and Request Payload and by the length, the
+-- bytes and the padding of the Unique Identifier
+abbrev pub messageWith : String → String → String → String → String
+messageWith whole batch payload uid =
+    "42007801" ⁀ whole
+    ⁀ "4200770100000038420069010000002042006A0200000004000000020000000042006B02000000040000000000000000"
+    ⁀ "42000D02000000040000000100000000"
+    ⁀ "42000F01" ⁀ batch ⁀ "42005C05000000040000002A00000000"
+    ⁀ "42007901" ⁀ payload ⁀ "42009407" ⁀ uid ⁀ "42005705000000040000000200000000"
+    ⁀ "42012501000000B042002B01000000304200830500000004000000030000000042002805000000040000000300000000"
+    ⁀ "42002A02000000040000010000000000"
+    ⁀ "420008010000003842009D07000000075443472D5357470042000A070000000B4E616D65737061636549440000000000"
+    ⁀ "42000B02000000040000000100000000"
+    ⁀ "420008010000003042009D07000000075443472D5357470042000A07000000064B657954616700"
+    ⁀ "0042000B02000000040000000000000000"
+    ⁀ "42008F01000000484200400100000040420042050000000400000001000000004200450100000028"
+    ⁀ "4200430800000020" ⁀ K
+
+-- the worked message of docs/KMIP.md, with KeyUID AA
+abbrev pub message : String
+message = messageWith "00000188" "00000140" "00000128" "00000001AA00000000000000"
+
+-- 102 digits 0, and ten times as many
+abbrev pub Z : String
+Z = "000000000000000000000000000000000000000000000000000000000000000000000000000000000000000000000000000000"
+
+abbrev pub tenZ : String
+tenZ = Z ⁀ Z ⁀ Z ⁀ Z ⁀ Z ⁀ Z ⁀ Z ⁀ Z ⁀ Z ⁀ Z
 
 unfoldable pub table : List (List Entry)
 table =
@@ -114,6 +143,18 @@ table =
     ∷ command "01" "01000000" "0700000000000000" "0000" "0000" answers "0000"
     ∷ command "02" "01000000" "0700000000000000" "0000" "0000" answers "0000"
     ∷ command "02" "01000000" "0700000000000000" "0000" "0100" answers "0028" ∷ [])
+    -- K1: a load as a message is a load: its slot is full, its KeyUID stands for its key, and a message for another slot loads nothing
+    ∷ ("010102" answers "0000" ∷ "0D010100" ⁀ message answers "0717" ∷ "0D020000" ⁀ message answers "0717"
+    ∷ "0D010000" ⁀ message answers "0000" ∷ "0D010000" ⁀ message answers "0709"
+    ∷ "0301010001AA" ⁀ L answers "070C" ∷ "0301010001AA" ⁀ K answers "0000" ∷ [])
+    -- K2: KeyUID length 16 accepted, 0 and 17 get 07 18; the checks of a load come behind it
+    ∷ ("0D010000" ⁀ messageWith "00000180" "00000138" "00000120" "00000000" answers "0718"
+    ∷ "0D010000" ⁀ message answers "0706"
+    ∷ "010101" answers "0000"
+    ∷ "0D010000" ⁀ messageWith "00000198" "00000150" "00000138" "00000011AAAAAAAAAAAAAAAAAAAAAAAAAAAAAAAAAA00000000000000" answers "0718"
+    ∷ "0D010000" ⁀ messageWith "00000190" "00000148" "00000130" "00000010AAAAAAAAAAAAAAAAAAAAAAAAAAAAAAAA" answers "0000" ∷ [])
+    -- K3: a message needs a head of 4 bytes and a byte of its own; a line of 1,024 digits is read, one of 1,026 is not
+    ∷ ("0D0100" answers "0703" ∷ "0D010000" answers "0717" ∷ "0900" ⁀ tenZ answers "0703" ∷ "090000" ⁀ tenZ answers "0701" ∷ [])
     -- the session that the paper gives whole
     ∷ ("010102" answers "0000" ∷ "0301000001AA" ⁀ K answers "0000" ∷ "05010100" answers "070A"
     ∷ "09" answers "000012000000" ∷ "0B01" answers "0000" ∷ "05010000" answers "070A" ∷ [])

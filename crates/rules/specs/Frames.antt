@@ -1,8 +1,9 @@
--- Frames: the twelve kinds with their fields, and how a frame is read from its
+-- Frames: the thirteen kinds with their fields, and how a frame is read from its
 -- bytes, with 07 02, 07 03 and 07 04 in the paper's order.
 -- Assumes nothing.
-use mathlib.Core.Bool.{Bool, true, not, _||_}
+use mathlib.Core.Bool.{Bool, true, false, not, _||_}
 use mathlib.Core.List.{List, [], _∷_}
+use mathlib.Core.Option.{Option, none, some}
 use Prim.Native.Nat.{ℕ, _+_}
 use lib.ListN.{length, getD, drop}
 use lib.Dec.{eqb, ltb}
@@ -13,10 +14,11 @@ use Rattle.rules.specs.declared.Refusal.{Refusal}
 use Rattle.rules.specs.declared.Command.{Command}
 use Rattle.rules.specs.Numbers.{uidMost, keySize}
 use Rattle.rules.specs.Checks.{Check, _when_}
-use Rattle.rules.specs.Answers.{07·02, 07·03, 07·04}
+use Rattle.rules.specs.Answers.{07·02, 07·03, 07·04, 07·17, 07·18}
 use Rattle.rules.specs.Fields.{byte, bytes, dword, bits}
 use Rattle.rules.specs.State.{namespace, keyTag}
 use Rattle.rules.specs.Slots.{Contents}
+use Rattle.rules.specs.Kmip.{loadOf}
 
 pub data Frame : Type 0 where
   manage : (ns : Namespace) (tags : ℕ) → Frame
@@ -98,10 +100,31 @@ readReplace f =
       frame = replace (namespace (byte 1 f)) (keyTag (bytes 2 3 f)) (part 5 o f) (contentsAt (6 + o) l f);
     }
 
+-- namespace 1, tag 2, then a message that brings KeyUID and key: a load
+abbrev pub bringsNothing : Option Contents → Bool
+bringsNothing none = true
+bringsNothing (some x) = false
+
+abbrev pub brought : Option Contents → Contents
+brought none = record { uid = []; key = [] }
+brought (some x) = x
+
+unfoldable pub readMessage : List ℕ → Reading
+readMessage f =
+    let x = loadOf (byte 1 f) (bytes 2 3 f) (drop 4 f) in
+    record {
+      checks =
+          07·03 when tooShort 4 f
+          ∷ 07·17 when bringsNothing x
+          ∷ 07·18 when badUidLength (length (brought x .uid))
+          ∷ [];
+      frame = load (namespace (byte 1 f)) (keyTag (bytes 2 3 f)) (brought x);
+    }
+
 abbrev pub unknownKind : Reading
 unknownKind = record { checks = 07·02 when true ∷ []; frame = unknown }
 
--- the table of kinds, 00 to 0C
+-- the table of kinds, 00 to 0D
 unfoldable pub kinds : List ℕ → List Reading
 kinds f =
     unknownKind
@@ -117,6 +140,7 @@ kinds f =
     ∷ exactly 2 f (bootWrite (byte 1 f))
     ∷ exactly 2 f (reset (byte 1 f))
     ∷ exactly 1 f discovery
+    ∷ readMessage f
     ∷ []
 
 unfoldable pub readFrame : List ℕ → Reading

@@ -45,9 +45,9 @@ markPlaces = namespaces * blocksEach
 abbrev pub storeSize : ℕ
 storeSize = markPlaces * markWidth
 
--- a line is 2 to 140 digits
+-- a line is 2 to 1,024 digits
 abbrev pub digitsMost : ℕ
-digitsMost = 140
+digitsMost = 1024
 
 -- an answer line has at most 13 bytes, but for that of discovery, below
 abbrev pub answerMost : ℕ

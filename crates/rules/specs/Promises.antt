@@ -21,7 +21,7 @@ use Rattle.rules.specs.Checks.{Check, AllPass, FirstToFail}
 use Rattle.rules.specs.Answers.{refusalNumber, answerLine, lineFeed, accepted}
 use Rattle.rules.specs.Answers.{00·01, 00·02, 00·0B, 00·25, 00·28, 00·80, 01·0E, 01·1E, 07·01}
 use Rattle.rules.specs.Answers.{07·02, 07·03, 07·04, 07·05, 07·06, 07·07, 07·08}
-use Rattle.rules.specs.Answers.{07·09, 07·0A, 07·0B, 07·0C, 07·0D, 07·0E, 07·0F, 07·16}
+use Rattle.rules.specs.Answers.{07·09, 07·0A, 07·0B, 07·0C, 07·0D, 07·0E, 07·0F, 07·16, 07·17, 07·18}
 use Rattle.rules.specs.State.{State, Outcome, Sized, IsNamespace, count, managed}
 use Rattle.rules.specs.Slots.{IsSlot, Contents, FitKey, slot, nothing, holding, held, uidHeld}
 use Rattle.rules.specs.Marks.{keptIdentity}
@@ -62,6 +62,8 @@ pub record NumbersAsNamed : Type 0 where
   pub is-07·0E : refusalNumber 07·0E ≡ 0x070E
   pub is-07·0F : refusalNumber 07·0F ≡ 0x070F
   pub is-07·16 : refusalNumber 07·16 ≡ 0x0716
+  pub is-07·17 : refusalNumber 07·17 ≡ 0x0717
+  pub is-07·18 : refusalNumber 07·18 ≡ 0x0718
 
 -- ------------------------------------------------------------------------
 -- The lines of a text: none has a line feed, and each with one behind it gives the text back; where the text does not end with one, and

@@ -26,7 +26,7 @@ pub const MARK_PLACES: usize = NAMESPACES * BLOCKS_EACH;
 
 pub const STORE_SIZE: usize = MARK_PLACES * MARK_WIDTH;
 
-pub const DIGITS_MOST: usize = 140;
+pub const DIGITS_MOST: usize = 1024;
 
 pub const FRAME_MOST: usize = DIGITS_MOST / 2;
 
@@ -110,6 +110,8 @@ pub enum Refusal {
     UnsoundState,
     OutputTooShort,
     NotAResponse,
+    InvalidMessage,
+    InvalidMessageKeyUid,
 }
 
 // An answer: 0000, 0000 with the 4 data bytes of Get Features or with the discovery response, or a refusal.

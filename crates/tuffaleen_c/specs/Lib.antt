@@ -1,3 +1,4 @@
 pub mod Image
 pub mod Host
 pub mod ImagePromises
+pub mod Office

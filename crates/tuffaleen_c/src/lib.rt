@@ -2,9 +2,11 @@
 ghost use mathlib.Core.Path.{_≡_};
 ghost use Rattle.tuffaleen_c.specs.Image.{cStart, cCall, cSession};
 ghost use Rattle.tuffaleen_c.specs.Host.{cDiscovery};
+ghost use Rattle.tuffaleen_c.specs.Office.{cMessage};
 
 mod host;
 mod image;
+mod office;
 
 use rules::Answer;
 use rules::Refusal;
@@ -96,4 +98,22 @@ pub extern "C" fn tuffaleen_discovery(bytes: &[u8], fields: &mut [u32]) -> u16
     }
     host::put(fields, header, tper, key_per_io);
     digits::number(answer)
+}
+
+// For the key office: the message that brings a key to a slot.
+#[no_mangle]
+pub extern "C" fn tuffaleen_message(
+    namespace: u8,
+    tag: u16,
+    uid: &[u8],
+    key: &[u8],
+    out: &mut [u8],
+    written: &mut usize,
+) -> u16
+    ensures { λ r. ⌜ record { number = r; bytes = now (written .exit); out = now (out .exit) }
+        ≡ cMessage namespace tag (now (uid .entry)) (now (key .entry)) (now (out .entry)) ⌝ }
+{
+    let told = kmip::write(namespace, tag, uid, key, out);
+    *written = office::bytes(told);
+    digits::number(office::answer(told))
 }

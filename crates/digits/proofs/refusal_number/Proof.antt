@@ -9,6 +9,7 @@ refusal-number-spec =
     tie.close
     (tie.spec
     (λ c. search needs) (λ c. search needs) (λ c. search needs) (λ c. search needs) (λ c. search needs) (λ c. search needs) (λ c. search needs)
+    (λ c. search needs) (λ c. search needs)
     (λ c. search needs) (λ c. search needs) (λ c. search needs) (λ c. search needs) (λ c. search needs) (λ c. search needs) (λ c. search needs)
     (λ c. search needs) (λ c. search needs) (λ c. search needs) (λ c. search needs) (λ c. search needs) (λ c. search needs) (λ c. search needs)
     (λ c. search needs) (λ c. search needs) (λ c. search needs) (λ c. rw (c .enum-told .given .1)) (λ c. rw (c .enum-told2 .given .1))
@@ -18,4 +19,5 @@ refusal-number-spec =
     (λ c. rw (c .enum-told14 .given .1)) (λ c. rw (c .enum-told15 .given .1)) (λ c. rw (c .enum-told16 .given .1))
     (λ c. rw (c .enum-told17 .given .1)) (λ c. rw (c .enum-told18 .given .1)) (λ c. rw (c .enum-told19 .given .1))
     (λ c. rw (c .enum-told20 .given .1)) (λ c. rw (c .enum-told21 .given .1)) (λ c. rw (c .enum-told22 .given .1))
-    (λ c. rw (c .enum-told23 .given .1)) (λ c. rw (c .enum-told24 .given .1)))
+    (λ c. rw (c .enum-told23 .given .1)) (λ c. rw (c .enum-told24 .given .1)) (λ c. rw (c .enum-told25 .given .1))
+    (λ c. rw (c .enum-told26 .given .1)))

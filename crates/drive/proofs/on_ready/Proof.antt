@@ -1,11 +1,19 @@
 -- `on_ready` meets its contract: the line, and its answer.
 -- Assumes nothing.
 use borrow.Author.Needs.{needs}
+use mathlib.Core.Path.{refl}
+use Rattle.cells.specs.Cells.{zeros}
 use Rattle.rules.specs.State.{State}
 use Rattle.drive.specs.Acting.{state}
 use Rattle.drive.proofs.RunningLaws.{replied}
 use Rattle.drive.proofs.on_ready.Statement.{statement}
 use Rattle.drive.proofs.on_ready.Tie as tie
+
+on-line-requires : tie.Need-on-line-requires
+unfolding zeros
+on-line-requires c κs =
+    let s : tie.Start = search in
+    (s .pre .0, refl)
 
 returns : tie.Need-returns
 returns c =
@@ -20,4 +28,4 @@ pub on-ready-spec : {M : Type 1} → statement M
 on-ready-spec =
     tie.close
     (tie.spec
-    (λ c κs. search needs) (λ c κs. search needs) (λ c. search needs) (λ c. search needs) (λ c. search needs) returns)
+    on-line-requires (λ c κs. search needs) (λ c. search needs) (λ c. search needs) (λ c. search needs) returns)

@@ -2,9 +2,8 @@
 -- Assumes nothing.
 use borrow.Author.Needs.{needs}
 use mathlib.Core.Path.{ap, _∙_}
-use Rattle.cells.specs.Predicates.{allZero}
-use Rattle.cells.proofs.PredicatesLaws.{allZero-zeros}
 use Rattle.rules.specs.State.{State}
+use Rattle.frames.specs.Reading.{ReadFrom, readFrom}
 use Rattle.frames.proofs.ReadingLaws.{means, lies}
 use Rattle.drive.specs.Acting.{state, acted}
 use Rattle.drive.proofs.ActingLaws.{line-acts}
@@ -15,18 +14,19 @@ act-requires : tie.Need-act-requires
 act-requires c κs =
     let s : tie.Start = search in
     let r : tie.After-read = search in
-    (s .pre, lies (s .args .line .now) _ (r .read .result) _ (r .read .ensures))
+    (s .pre .0, lies (s .args .line .now) _ (r .read .result) _ (search needs) (r .read .ensures .0))
 
 returns : tie.Need-returns
 returns c =
-    let w : tie.After-fill-zero = search in
+    let w : tie.After-wipe = search in
     let t : tie.After-act = search in
     let r : tie.After-read = search in
     let s : tie.Start = search in
     let a = s .args in
     let now : State = state (a .registers) (a .keys .now) (a .marks .now) in (
-      t .act .ensures ∙ ap (acted now) (means (a .line .now) _ (r .read .result) _ (r .read .ensures)) ∙ line-acts now (a .line .now),
-      ap allZero (w .fill-zero .ensures) ∙ allZero-zeros _,
+      t .act .ensures ∙ ap (acted now) (means (a .line .now) _ (r .read .result) _ (search needs) (r .read .ensures .0)) ∙ line-acts now (a .line .now),
+      w .wipe .ensures (ap (λ (x : ReadFrom). x .frame) (r .read .ensures .0) ∙ ap (λ z. readFrom (a .line .now) z .frame) (s .pre .1)),
+      r .read .ensures .1,
     )
 
 pub on-line-spec : {M : Type 1} → statement M

@@ -88,7 +88,7 @@ returns-14 : tie.Need-returns-14
 unfolding readFrame numbered
 returns-14 c =
     let s : tie.Start = search in
-    rw (no-kind (s .args .f .now) (byte 0 (s .args .f .now)) (c .match .rest .0) (c .match .rest .1))
+    rw (no-kind (s .args .f .now) (byte 0 (s .args .f .now)) (c .match .rest .0, s .pre .1) (c .match .rest .1))
 
 pub by-kind-spec : {M : Type 1} → statement M
 by-kind-spec =
