@@ -102,6 +102,7 @@ pub fn own() -> Fields {
             shared_tweak_key_required: true,
             enabled: true,
             max_key_uid_length: KEY_UID as u16,
+            kmip: true,
             key_tags: POOL as u32,
             key_tags_per_namespace: TAGS as u16,
             ..KeyPerIo::default()

@@ -1,5 +1,7 @@
-//! From a line's digits to a frame: 07 01, 07 02, and the lengths 07 03 and 07 04.
+//! From a line's digits to a frame: 07 01, 07 02, the lengths 07 03 and 07 04, and what a message
+//! is refused with, 07 17 and 07 18.
 
+use crate::kmip;
 use crate::numbers::{COMMAND, FRAME, KEY, KEY_UID};
 use crate::status;
 
@@ -21,6 +23,7 @@ pub struct Material<'a> {
 pub enum Frame<'a> {
     Manage(Namespace, u8),
     Release(Namespace),
+    /// Of kind 03 or 0D.
     Load(Namespace, Tag, Material<'a>),
     Replace(Namespace, Tag, &'a [u8], Material<'a>),
     ClearOne(Namespace, Tag),
@@ -80,7 +83,10 @@ pub fn parse(bytes: &[u8]) -> Result<Frame<'_>, u16> {
         [0x0A, partition] => Ok(Frame::BootWrite(partition)),
         [0x0B, level] => Ok(Frame::Reset(level)),
         [0x0C] => Ok(Frame::Discovery),
-        [0x01..=0x0C, ..] => Err(status::LENGTH),
+        [0x0D, namespace, t0, t1, ref message @ ..] => {
+            message_load(namespace, Tag::new(t0, t1), message)
+        }
+        [0x01..=0x0D, ..] => Err(status::LENGTH),
         _ => Err(status::KIND),
     }
 }
@@ -90,6 +96,12 @@ fn load(fields: &[u8]) -> Result<Frame<'_>, u16> {
         return Err(status::LENGTH);
     };
     Ok(Frame::Load(namespace.into(), Tag::new(t0, t1), material(rest)?))
+}
+
+/// The message says a second time which namespace and tag it is for.
+fn message_load(namespace: u8, tag: Tag, message: &[u8]) -> Result<Frame<'_>, u16> {
+    let material = kmip::load(message, namespace, tag.0)?;
+    Ok(Frame::Load(namespace.into(), tag, material))
 }
 
 fn replace(fields: &[u8]) -> Result<Frame<'_>, u16> {

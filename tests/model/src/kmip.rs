@@ -4,7 +4,7 @@
 use crate::frame::Material;
 use crate::numbers::{KEY, KEY_UID};
 use crate::status;
-use crate::ttlv::{self, Content, Items, Node, Tag};
+use crate::ttlv::{self, Items, Node, Tag};
 
 const ATTRIBUTE: Tag = [0x42, 0x00, 0x08];
 const ATTRIBUTE_NAME: Tag = [0x42, 0x00, 0x0A];
@@ -128,71 +128,57 @@ fn is<T: PartialEq>(value: T, wanted: T) -> Option<()> {
 
 /// The message of a load, KeyUID and key of any length: the profile's items and no others.
 pub fn message(namespace: u8, tag: u16, uid: &[u8], key: &[u8]) -> Vec<u8> {
-    let header = structure(
+    let header = Node::structure(
         REQUEST_HEADER,
         [
-            structure(
+            Node::structure(
                 PROTOCOL_VERSION,
-                [integer(PROTOCOL_VERSION_MAJOR, MAJOR), integer(PROTOCOL_VERSION_MINOR, MINOR)],
+                [
+                    Node::integer(PROTOCOL_VERSION_MAJOR, MAJOR),
+                    Node::integer(PROTOCOL_VERSION_MINOR, MINOR),
+                ],
             ),
-            integer(BATCH_COUNT, 1),
+            Node::integer(BATCH_COUNT, 1),
         ],
     );
-    let payload = structure(
+    let payload = Node::structure(
         REQUEST_PAYLOAD,
         [
-            text(UNIQUE_IDENTIFIER, uid),
-            enumeration(OBJECT_TYPE, OBJECT_IS_SYMMETRIC_KEY),
+            Node::text(UNIQUE_IDENTIFIER, uid),
+            Node::enumeration(OBJECT_TYPE, OBJECT_IS_SYMMETRIC_KEY),
             attributes(namespace, tag),
-            structure(SYMMETRIC_KEY, [key_block(key)]),
+            Node::structure(SYMMETRIC_KEY, [key_block(key)]),
         ],
     );
-    let batch_item = structure(BATCH_ITEM, [enumeration(OPERATION, IMPORT), payload]);
-    ttlv::encode(&[structure(REQUEST_MESSAGE, [header, batch_item])])
+    let batch_item = Node::structure(BATCH_ITEM, [Node::enumeration(OPERATION, IMPORT), payload]);
+    ttlv::encode(&[Node::structure(REQUEST_MESSAGE, [header, batch_item])])
 }
 
 fn attributes(namespace: u8, tag: u16) -> Node {
-    let parameters = structure(
+    let parameters = Node::structure(
         CRYPTOGRAPHIC_PARAMETERS,
         [
-            enumeration(KEY_ROLE_TYPE, DEK),
-            enumeration(CRYPTOGRAPHIC_ALGORITHM, AES),
-            integer(CRYPTOGRAPHIC_LENGTH, KEY_BITS),
+            Node::enumeration(KEY_ROLE_TYPE, DEK),
+            Node::enumeration(CRYPTOGRAPHIC_ALGORITHM, AES),
+            Node::integer(CRYPTOGRAPHIC_LENGTH, KEY_BITS),
         ],
     );
     let attribute = |name, value| {
-        structure(
+        Node::structure(
             ATTRIBUTE,
             [
-                text(VENDOR_IDENTIFICATION, VENDOR),
-                text(ATTRIBUTE_NAME, name),
-                integer(ATTRIBUTE_VALUE, value),
+                Node::text(VENDOR_IDENTIFICATION, VENDOR),
+                Node::text(ATTRIBUTE_NAME, name),
+                Node::integer(ATTRIBUTE_VALUE, value),
             ],
         )
     };
     let namespace = attribute(NAMESPACE_ID, namespace.into());
     let tag = attribute(KEY_TAG, tag.into());
-    structure(ATTRIBUTES, [parameters, namespace, tag])
+    Node::structure(ATTRIBUTES, [parameters, namespace, tag])
 }
 
 fn key_block(key: &[u8]) -> Node {
-    let material = Node { tag: KEY_MATERIAL, content: Content::Bytes(key.to_vec()) };
-    let value = structure(KEY_VALUE, [material]);
-    structure(KEY_BLOCK, [enumeration(KEY_FORMAT_TYPE, RAW), value])
-}
-
-fn structure<const N: usize>(tag: Tag, members: [Node; N]) -> Node {
-    Node { tag, content: Content::Structure(members.into()) }
-}
-
-fn integer(tag: Tag, number: i32) -> Node {
-    Node { tag, content: Content::Integer(number) }
-}
-
-fn enumeration(tag: Tag, number: u32) -> Node {
-    Node { tag, content: Content::Enumeration(number) }
-}
-
-fn text(tag: Tag, text: &[u8]) -> Node {
-    Node { tag, content: Content::Text(text.to_vec()) }
+    let value = Node::structure(KEY_VALUE, [Node::bytes(KEY_MATERIAL, key)]);
+    Node::structure(KEY_BLOCK, [Node::enumeration(KEY_FORMAT_TYPE, RAW), value])
 }

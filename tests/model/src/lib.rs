@@ -11,6 +11,7 @@ mod io;
 mod keys;
 pub mod kmip;
 pub mod lines;
+pub mod messages;
 pub mod numbers;
 mod session;
 pub mod status;

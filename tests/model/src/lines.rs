@@ -1,6 +1,7 @@
 //! Frames as text lines, for the tests and the session files. KeyUIDs are given as digits, a key
 //! as the byte that fills it, a block count as its field, which is one less.
 
+use crate::kmip;
 use crate::numbers::{COMMAND, KEY};
 
 pub const WRITE: u8 = 0x01;
@@ -10,6 +11,12 @@ pub const VERIFY: u8 = 0x0C;
 
 pub fn hex(bytes: &[u8]) -> String {
     bytes.iter().map(|byte| format!("{byte:02X}")).collect()
+}
+
+/// The bytes of digits, which are as `hex` writes them.
+pub fn unhex(digits: &str) -> Vec<u8> {
+    let byte = |at| u8::from_str_radix(&digits[at..at + 2], 16).expect("two digits");
+    (0..digits.len()).step_by(2).map(byte).collect()
 }
 
 fn tagged(kind: u8, namespace: u8, tag: u16) -> String {
@@ -95,4 +102,15 @@ pub fn power_cycle() -> String {
 
 pub fn discovery() -> String {
     "0C".to_string()
+}
+
+/// A load in KMIP form.
+pub fn message_load(namespace: u8, tag: u16, uid: &str, key: u8) -> String {
+    let message = kmip::message(namespace, tag, &unhex(uid), &[key; KEY]);
+    message_frame(namespace, tag, &message)
+}
+
+/// A frame of kind 0D with any bytes for its message.
+pub fn message_frame(namespace: u8, tag: u16, message: &[u8]) -> String {
+    tagged(0x0D, namespace, tag) + &hex(message)
 }

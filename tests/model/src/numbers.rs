@@ -19,8 +19,12 @@ pub const UNLOCKED: u8 = 1;
 pub const LOCKED: u8 = 2;
 pub const UNTIL_POWER_CYCLE: u8 = 3;
 
-/// The bytes of the longest frame, a replace with two KeyUIDs of 16.
-pub const FRAME: usize = 70;
+/// The most bytes that a load's message has.
+pub const MESSAGE: usize = 508;
+/// The bytes of the longest frame: kind, namespace, tag and such a message.
+pub const FRAME: usize = 1 + 1 + 2 + MESSAGE;
+/// The bytes of the longest frame without a message, a replace with two KeyUIDs of 16.
+pub const REPLACE: usize = 1 + 1 + 2 + HEAD + HEAD + KEY;
 pub const COMMAND: usize = 64;
 /// The bytes of a discovery response.
 pub const RESPONSE: usize = 112;

@@ -35,7 +35,7 @@ impl Drive {
     /// Answers one line: the answer's number and the bytes written, 0 when the call was refused.
     pub fn line(&mut self, marks: &mut [u8], line: &[u8], out: &mut [u8]) -> (u16, usize) {
         match self.admit(marks, room(line), out) {
-            Ok(marks) => self.answer(marks, line, out),
+            Ok(marks) => self.answer(marks, line, &mut [0; FRAME], out),
             Err(number) => (number, 0),
         }
     }
@@ -51,9 +51,10 @@ impl Drive {
             Ok(marks) => marks,
             Err(number) => return (number, 0, 0),
         };
+        let mut frame = [0; FRAME];
         let (mut answered, mut written) = (0, 0);
         for line in lines(text) {
-            written += self.answer(marks, line, &mut out[written..]).1;
+            written += self.answer(marks, line, &mut frame, &mut out[written..]).1;
             answered += 1;
         }
         (status::DONE, answered, written)
@@ -75,9 +76,15 @@ impl Drive {
         Ok(marks)
     }
 
-    fn answer(&mut self, marks: &mut [u8; STORE], line: &[u8], out: &mut [u8]) -> (u16, usize) {
-        let mut buffer = [0; FRAME];
-        let frame = decode(line, &mut buffer).and_then(parse);
+    /// Whatever the buffer holds; the frame's bytes go to its front.
+    fn answer(
+        &mut self,
+        marks: &mut [u8; STORE],
+        line: &[u8],
+        buffer: &mut [u8; FRAME],
+        out: &mut [u8],
+    ) -> (u16, usize) {
+        let frame = decode(line, buffer).and_then(parse);
         match frame.and_then(|frame| self.obey(marks, frame)) {
             Ok(Data::Nothing) => (status::DONE, write_line(out, status::DONE, [])),
             Ok(Data::Locks(dword)) => {

@@ -163,6 +163,36 @@ pub enum Content {
     Bytes(Vec<u8>),
 }
 
+impl Node {
+    pub fn structure(tag: Tag, members: impl Into<Vec<Node>>) -> Node {
+        Node { tag, content: Content::Structure(members.into()) }
+    }
+
+    pub fn integer(tag: Tag, number: i32) -> Node {
+        Node { tag, content: Content::Integer(number) }
+    }
+
+    pub fn enumeration(tag: Tag, number: u32) -> Node {
+        Node { tag, content: Content::Enumeration(number) }
+    }
+
+    pub fn text(tag: Tag, text: &[u8]) -> Node {
+        Node { tag, content: Content::Text(text.to_vec()) }
+    }
+
+    pub fn bytes(tag: Tag, bytes: &[u8]) -> Node {
+        Node { tag, content: Content::Bytes(bytes.to_vec()) }
+    }
+
+    /// What stands in it; nothing if it is no structure.
+    pub fn members(&self) -> &[Node] {
+        match &self.content {
+            Content::Structure(members) => members,
+            _ => &[],
+        }
+    }
+}
+
 /// The tree of sound bytes.
 pub fn tree(bytes: &[u8]) -> Option<Vec<Node>> {
     Some(read(bytes)?.map(Node::from).collect())

@@ -10,20 +10,11 @@ use model::kmip::{load, message};
 use model::lines::hex;
 use model::ttlv::{encode, read, tree, write, Content, Node};
 
-const WORKED: &str = "\
-42007801000001884200770100000038420069010000002042006A0200000004\
-000000020000000042006B0200000004000000000000000042000D0200000004\
-000000010000000042000F010000014042005C05000000040000002A00000000\
-42007901000001284200940700000001AA000000000000004200570500000004\
-000000020000000042012501000000B042002B01000000304200830500000004\
-00000003000000004200280500000004000000030000000042002A0200000004\
-0000010000000000420008010000003842009D07000000075443472D53574700\
-42000A070000000B4E616D6573706163654944000000000042000B0200000004\
-0000000100000000420008010000003042009D07000000075443472D53574700\
-42000A07000000064B6579546167000042000B02000000040000000000000000\
-42008F0100000048420040010000004042004205000000040000000100000000\
-4200450100000028420043080000002011111111111111111111111111111111\
-11111111111111111111111111111111";
+/// The digits of the message that the notes on request 5 work out.
+fn worked_digits() -> String {
+    let text = include_str!("../worked-message.txt");
+    text.lines().filter(|line| !line.starts_with('#')).collect()
+}
 
 /// Offset, depth, tag, type and length of each item of the worked message.
 const LAYOUT: [(usize, usize, u32, u8, u32); 29] = [
@@ -244,7 +235,7 @@ fn nested(depth: usize, leaf: Node) -> Node {
 
 #[test]
 fn the_worked_message() {
-    assert_eq!(hex(&worked_bytes()), WORKED);
+    assert_eq!(hex(&worked_bytes()), worked_digits());
     assert_eq!(judged(&worked_bytes()), accepted());
     assert_eq!(encode(&tree(&worked_bytes()).unwrap()), worked_bytes());
 }
@@ -655,17 +646,34 @@ fn enumerations() {
     }
 }
 
-#[test]
-fn algorithm_and_length_in_either_place() {
-    let algorithm = |value| node(0x420028, Content::Enumeration(value));
-    let length = |value| node(0x42002A, Content::Integer(value));
-    let wrong = |place| match place {
+fn algorithm(value: u32) -> Node {
+    node(0x420028, Content::Enumeration(value))
+}
+
+fn length(value: i32) -> Node {
+    node(0x42002A, Content::Integer(value))
+}
+
+/// What must stand at one of the two places.
+fn right(place: usize) -> Node {
+    if place == ALGORITHM {
+        algorithm(3)
+    } else {
+        length(256)
+    }
+}
+
+fn wrong(place: usize) -> [Node; 2] {
+    match place {
         ALGORITHM => [algorithm(4), node(0x420028, Content::Integer(3))],
         _ => [length(128), node(0x42002A, Content::Enumeration(256))],
-    };
-    let right = |place| if place == ALGORITHM { algorithm(3) } else { length(256) };
+    }
+}
+
+#[test]
+fn algorithm_or_length_in_the_key_block() {
     for place in [ALGORITHM, LENGTH] {
-        // Each on its own may stand in the key block, first or last there.
+        // Each on its own, first or last there.
         for in_block in [vec![right(place)], vec![right(place), wrong(place)[0].clone()]] {
             for at_front in [true, false] {
                 let mut root = without(place);
@@ -676,8 +684,35 @@ fn algorithm_and_length_in_either_place() {
                 assert_eq!(judged_tree(&root), accepted(), "{place}");
             }
         }
+        // Nowhere else.
+        for elsewhere in [MESSAGE, PAYLOAD, ATTRIBUTES, NAMESPACE - 1, BLOCK - 2, VALUE - 1] {
+            let mut root = without(place);
+            let way = way(&root, elsewhere);
+            members(at(&mut root, &way)).push(right(place));
+            assert_eq!(judged_tree(&root), REFUSED, "{place} in {elsewhere}");
+        }
+    }
+}
+
+#[test]
+fn algorithm_and_length_in_the_key_block() {
+    let mut root = changed(PARAMETERS, |node| members(node).truncate(1));
+    let way = way(&root, BLOCK - 2);
+    members(at(&mut root, &way)).extend([length(256), algorithm(3)]);
+    assert_eq!(judged_tree(&root), accepted());
+    // A second Cryptographic Parameters doesn't help.
+    let second = structure(0x42002B, vec![algorithm(3), length(256)]);
+    let mut root = changed(PARAMETERS, |node| members(node).truncate(1));
+    let way = crate::way(&root, ATTRIBUTES);
+    members(at(&mut root, &way)).push(second);
+    assert_eq!(judged_tree(&root), REFUSED);
+}
+
+#[test]
+fn algorithm_and_length_in_both_places() {
+    for place in [ALGORITHM, LENGTH] {
         for other in wrong(place) {
-            // In both the parameters' counts.
+            // The parameters' counts.
             assert_eq!(with_more(BLOCK, &other), accepted(), "{other:?}");
             assert_eq!(with_before(PARAMETERS, &other), REFUSED, "{other:?}");
             let mut root = without(place);
@@ -693,25 +728,7 @@ fn algorithm_and_length_in_either_place() {
             members(at(&mut root, &to_block)).push(right(place));
             assert_eq!(judged_tree(&root), REFUSED, "{other:?}");
         }
-        // Nowhere else.
-        for elsewhere in [MESSAGE, PAYLOAD, ATTRIBUTES, NAMESPACE - 1, BLOCK - 2, VALUE - 1] {
-            let mut root = without(place);
-            let way = way(&root, elsewhere);
-            members(at(&mut root, &way)).push(right(place));
-            assert_eq!(judged_tree(&root), REFUSED, "{place} in {elsewhere}");
-        }
     }
-    // Both in the key block.
-    let mut root = changed(PARAMETERS, |node| members(node).truncate(1));
-    let way = way(&root, BLOCK - 2);
-    members(at(&mut root, &way)).extend([length(256), algorithm(3)]);
-    assert_eq!(judged_tree(&root), accepted());
-    // A second Cryptographic Parameters doesn't help.
-    let second = structure(0x42002B, vec![algorithm(3), length(256)]);
-    let mut root = changed(PARAMETERS, |node| members(node).truncate(1));
-    let way = crate::way(&root, ATTRIBUTES);
-    members(at(&mut root, &way)).push(second);
-    assert_eq!(judged_tree(&root), REFUSED);
 }
 
 #[test]

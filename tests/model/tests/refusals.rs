@@ -135,18 +135,24 @@ fn not_a_frame_line_0701() {
     for line in ["", "0", "090", "0a00", " 09", "09\r", "09\n", "0G", "é"] {
         bench.refuse(line, "0701");
     }
-    bench.refuse("0".repeat(139), "0701");
-    bench.refuse("0".repeat(140), "0702");
-    bench.refuse("0".repeat(141), "0701");
-    bench.refuse("0".repeat(142), "0701");
+    for digits in (2..=1024).step_by(2) {
+        bench.refuse("0".repeat(digits - 1), "0701");
+        bench.refuse("0".repeat(digits), "0702");
+        bench.refuse("0".repeat(digits - 1) + "g", "0701");
+    }
+    for digits in [1025, 1026, 1027, 1028, 2048, 2050, 4096] {
+        bench.refuse("0".repeat(digits), "0701");
+    }
 }
 
 #[test]
 fn kind_0702() {
     let mut bench = Bench::new();
-    for kind in (0..=255).filter(|kind| !(1..=12).contains(kind)) {
-        bench.refuse(hex(&[kind]), "0702");
-        bench.refuse(hex(&[kind; 70]), "0702");
+    for kind in (0..=255).filter(|kind| !(1..=13).contains(kind)) {
+        for bytes in [1, 70, 71, 511, 512] {
+            bench.refuse(hex(&vec![kind; bytes]), "0702");
+        }
+        bench.refuse(hex(&[kind; 513]), "0701");
     }
 }
 
@@ -157,12 +163,13 @@ fn length_0703() {
     let others = [set_features(9), get_features(), boot_write(0), power_cycle(), discovery()];
     let keyed = [load(1, 1, "BB", 0x22), replace(1, 0, "AA", "BB", 0x22)];
     for frame in frames.iter().chain(&others).chain(&keyed) {
-        for bytes in 1..=70 {
-            let line = format!("{frame}{}", "00".repeat(70));
+        let line = format!("{frame}{}", "00".repeat(513));
+        for bytes in (1..=80).chain((84..512).step_by(29)).chain([255, 256, 257, 511, 512]) {
             if bytes * 2 != frame.len() {
                 bench.refuse(&line[..bytes * 2], "0703");
             }
         }
+        bench.refuse(&line[..2 * 513], "0701");
     }
 }
 
@@ -175,8 +182,16 @@ fn key_uid_length_0704() {
         bench.refuse(format!("04010000{length:02X}"), "0704");
         bench.refuse(format!("0401000001AA{length:02X}"), "0704");
         bench.refuse(format!("04010000{length:02X}{}", "00".repeat(65)), "0704");
+        for head in ["03010100", "04010000", "0401000001AA"] {
+            for bytes in [71, 72, 256, 512] {
+                let filling = "00".repeat(bytes - head.len() / 2 - 1);
+                bench.refuse(format!("{head}{length:02X}{filling}"), "0704");
+            }
+            bench.refuse(format!("{head}{length:02X}{}", "00".repeat(512)), "0701");
+        }
     }
-    bench.refuse(replace(1, 0, &"AA".repeat(16), &"AA".repeat(17), 0x22), "0701");
+    bench.refuse(replace(1, 0, &"AA".repeat(16), &"AA".repeat(17), 0x22), "0704");
+    bench.refuse(replace(1, 0, &"AA".repeat(17), &"AA".repeat(16), 0x22), "0704");
 }
 
 #[test]

@@ -37,6 +37,12 @@ mod load;
 mod manage;
 #[path = "sessions/marks.rs"]
 mod marks;
+#[path = "sessions/message.rs"]
+mod message;
+#[path = "sessions/message_items.rs"]
+mod message_items;
+#[path = "sessions/misread.rs"]
+mod misread;
 #[path = "sessions/order.rs"]
 mod order;
 #[path = "sessions/paper.rs"]
@@ -45,6 +51,8 @@ mod paper;
 mod replace;
 #[path = "sessions/seeds.rs"]
 mod seeds;
+#[path = "sessions/spoilt.rs"]
+mod spoilt;
 #[path = "sessions/tally.rs"]
 mod tally;
 #[path = "sessions/walk.rs"]
@@ -89,6 +97,8 @@ fn by_hand() -> Folder {
     boot::add(&mut folder);
     order::add(&mut folder);
     discovery::add(&mut folder);
+    message::add(&mut folder);
+    message_items::add(&mut folder);
     folder
 }
 

@@ -1,11 +1,14 @@
 //! Wrong rules for the model, most of them misreadings of the paper: sessions whose answers stay the same under one
 //! of them would not notice that rule broken in the proved program.
 
-use model::lines::{clear_one, set_features};
+use model::lines::{clear_one, hex, load_key, message_frame, set_features, unhex};
 use model::numbers::{
-    BLOCKS, DISCOVERY_ROOM, HEAD, INPUT, KEYS, MARK, OUTPUT, ROOM, SLOT, STORE, TAGS,
+    BLOCKS, DISCOVERY_ROOM, FRAME, HEAD, INPUT, KEYS, KEY_UID, MARK, OUTPUT, REPLACE, ROOM, SLOT,
+    STORE, TAGS,
 };
-use model::{room, status, Drive};
+use model::{kmip, room, status, Drive};
+
+use crate::misread::misread;
 
 #[derive(Clone, Copy, PartialEq, Eq)]
 pub enum Rule {
@@ -57,9 +60,27 @@ pub enum Rule {
     DiscoveryLength,
     /// Discovery locks the boot partitions.
     DiscoveryLocks,
+    /// A line has at most 140 digits, as 01 had it.
+    MessageLength,
+    /// A load without a byte of message has the wrong length.
+    MessageEmpty,
+    /// A message's padding isn't looked at.
+    MessagePadding,
+    /// A message's items may be nine deep.
+    MessageDepth,
+    /// A message's namespace isn't compared with the frame's.
+    MessageNamespace,
+    /// A message's tag isn't compared with the frame's.
+    MessageTag,
+    /// An attribute may be named UID.
+    MessageUid,
+    /// Of attributes with the same name the last counts.
+    MessageFirst,
+    /// A message's KeyUID is judged before all else in it.
+    MessageOrder,
 }
 
-const NAMES: [(&str, Rule); 24] = [
+const NAMES: [(&str, Rule); 33] = [
     ("small-letters", Rule::SmallLetters),
     ("last-line", Rule::LastLine),
     ("input", Rule::Input),
@@ -84,6 +105,15 @@ const NAMES: [(&str, Rule); 24] = [
     ("discovery-kind", Rule::DiscoveryKind),
     ("discovery-length", Rule::DiscoveryLength),
     ("discovery-locks", Rule::DiscoveryLocks),
+    ("message-length", Rule::MessageLength),
+    ("message-empty", Rule::MessageEmpty),
+    ("message-padding", Rule::MessagePadding),
+    ("message-depth", Rule::MessageDepth),
+    ("message-namespace", Rule::MessageNamespace),
+    ("message-tag", Rule::MessageTag),
+    ("message-uid", Rule::MessageUid),
+    ("message-first", Rule::MessageFirst),
+    ("message-order", Rule::MessageOrder),
 ];
 
 /// The slots of 01, in the pool and at most in a namespace.
@@ -145,62 +175,94 @@ impl Bench {
 
     /// As the model answers, but for what the wrong rule makes of it.
     fn answer(&mut self, rule: Rule, line: &[u8]) -> Vec<u8> {
-        if rule == Rule::SmallLetters {
-            return self.line(&line.to_ascii_uppercase()).1;
+        if let Some(out) = self.by_another_line(rule, line) {
+            return out;
         }
-        if rule == Rule::WriteCheck && line.starts_with(b"0701") {
-            let (number, out) = self.line(&[b"0702", &line[4..]].concat());
-            if number == status::WRONG_KEY {
-                return out;
-            }
-        }
-        let (mut keys, marks) = (self.drive.keys, self.marks);
+        let (keys, marks) = (self.drive.keys, self.marks);
         let (number, out) = self.line(line);
-        let done = number == status::DONE;
-        match (rule, line.get(..2).unwrap_or(b"")) {
-            (Rule::ManageOrder, b"01") if number == status::MANAGED && bad_count(line) => {
-                return b"0707\n".to_vec();
+        if number == status::DONE {
+            self.and_then(rule, line, keys, marks);
+        }
+        self.instead(rule, line, number, &out).unwrap_or(out)
+    }
+
+    /// For rules by which a line says something else.
+    fn by_another_line(&mut self, rule: Rule, line: &[u8]) -> Option<Vec<u8>> {
+        match rule {
+            Rule::SmallLetters => Some(self.line(&line.to_ascii_uppercase()).1),
+            Rule::WriteCheck if line.starts_with(b"0701") => {
+                let (number, out) = self.line(&[b"0702", &line[4..]].concat());
+                (number == status::WRONG_KEY).then_some(out)
             }
-            (Rule::OldTagCount, b"01") if done && usize::from(byte(line, 2)) > OLD_TAGS => {
-                return self.unmanaged(line, b"0707\n");
+            Rule::MessageLength if line.len() > 2 * REPLACE => Some(b"0701\n".to_vec()),
+            Rule::MessagePadding
+            | Rule::MessageDepth
+            | Rule::MessageNamespace
+            | Rule::MessageTag
+            | Rule::MessageUid
+            | Rule::MessageFirst => {
+                let (namespace, tag, message) = message_of(line)?;
+                let message = misread(rule, &message, namespace, tag);
+                Some(self.line(message_frame(namespace, tag, &message).as_bytes()).1)
             }
-            (Rule::OldPool, b"01") if done && self.allocated() > OLD_POOL => {
-                return self.unmanaged(line, b"0708\n");
-            }
-            (Rule::TagByte, kind) if number == status::TAG => {
-                return self.line(&low_tag(kind, line)).1;
-            }
-            (Rule::NearSlots, b"03") if number == status::OTHER_KEY => {
-                return self.near_slots(line);
-            }
-            (Rule::FarKeys, b"06" | b"0B") if done => {
+            _ => None,
+        }
+    }
+
+    /// What an accepted line does besides, or does not do.
+    fn and_then(&mut self, rule: Rule, line: &[u8], mut keys: [u8; KEYS], marks: [u8; STORE]) {
+        match (rule, &line[..2]) {
+            (Rule::FarKeys, b"06" | b"0B") => {
                 let far = far_slots(&mut self.drive.keys).zip(far_slots(&mut keys));
                 far.for_each(|(now, before)| now.copy_from_slice(before));
             }
-            (Rule::OwnSlot, b"04") if number == status::OTHER_KEY => return self.own_slot(line),
-            (Rule::OtherRooms, _) if number == status::OTHER_KEY => return self.other_rooms(line),
-            (Rule::ClearMarks, b"05" | b"06") if done => {
+            (Rule::ClearMarks, b"05" | b"06") => {
                 let namespace = usize::from(byte(line, 1)) - 1;
                 self.marks[namespace * BLOCKS * MARK..][..BLOCKS * MARK].fill(0);
             }
             (Rule::ReleaseMarks, b"02") => self.marks = marks,
-            (Rule::FirstEight | Rule::FirstFifteen | Rule::NoLength, _)
-                if number == status::WRONG_KEY =>
-            {
-                return self.kept_by(rule, line);
-            }
             (Rule::PowerCycle, b"0B") => self.drive.keys = keys,
-            (Rule::ControllerReset, b"0B") if done => self.drive.locks = [2; 2],
-            (Rule::Partition, b"08") if number == status::LOCK_FIXED => {
-                self.line(set_features(u32::from(byte(line, 1) & 7)).as_bytes());
+            (Rule::ControllerReset, b"0B") | (Rule::DiscoveryLocks, b"0C") => {
+                self.drive.locks = [2; 2];
             }
-            (Rule::DiscoveryLength, b"0C") if done => {
-                return [b"000000000070", &out[12..]].concat();
-            }
-            (Rule::DiscoveryLocks, b"0C") if done => self.drive.locks = [2; 2],
             _ => {}
         }
-        out
+    }
+
+    /// Another answer than the model's, and what comes with it.
+    fn instead(&mut self, rule: Rule, line: &[u8], number: u16, out: &[u8]) -> Option<Vec<u8>> {
+        match (rule, line.get(..2).unwrap_or(b""), number) {
+            (Rule::ManageOrder, b"01", status::MANAGED) if bad_count(line) => {
+                Some(b"0707\n".to_vec())
+            }
+            (Rule::OldTagCount, b"01", status::DONE) if usize::from(byte(line, 2)) > OLD_TAGS => {
+                Some(self.unmanaged(line, b"0707\n"))
+            }
+            (Rule::OldPool, b"01", status::DONE) if self.allocated() > OLD_POOL => {
+                Some(self.unmanaged(line, b"0708\n"))
+            }
+            (Rule::TagByte, kind, status::TAG) => Some(self.line(&low_tag(kind, line)).1),
+            (Rule::NearSlots, b"03" | b"0D", status::OTHER_KEY) => Some(self.near_slots(line)),
+            (Rule::OwnSlot, b"04", status::OTHER_KEY) => Some(self.own_slot(line)),
+            (Rule::OtherRooms, _, status::OTHER_KEY) => Some(self.other_rooms(line)),
+            (Rule::FirstEight | Rule::FirstFifteen | Rule::NoLength, _, status::WRONG_KEY) => {
+                Some(self.kept_by(rule, line))
+            }
+            (Rule::Partition, b"08", status::LOCK_FIXED) => {
+                self.line(set_features(u32::from(byte(line, 1) & 7)).as_bytes());
+                None
+            }
+            (Rule::DiscoveryLength, b"0C", status::DONE) => {
+                Some([b"000000000070", &out[12..]].concat())
+            }
+            (Rule::MessageEmpty, b"0D", status::MESSAGE) if line.len() == 8 => {
+                Some(b"0703\n".to_vec())
+            }
+            (Rule::MessageOrder, b"0D", status::MESSAGE) if bad_key_uid(&message_of(line)?.2) => {
+                Some(b"0718\n".to_vec())
+            }
+            _ => None,
+        }
     }
 
     /// Answers a refused read again with no more of the KeyUIDs in slots and marks than the rule keeps.
@@ -264,10 +326,37 @@ fn byte(line: &[u8], at: usize) -> u8 {
     digit(2 * at) << 4 | digit(2 * at + 1)
 }
 
-/// The line with zero for its tag's high byte.
+/// The line with zero for its tag's high byte. A message says its tag too, so its load becomes one of kind 03.
 fn low_tag(kind: &[u8], line: &[u8]) -> Vec<u8> {
+    if let (b"0D", Some((namespace, tag, message))) = (kind, message_of(line)) {
+        let taken = kmip::load(&message, namespace, tag).expect("a load");
+        return load_key(namespace, tag & 0xFF, &hex(taken.uid), taken.key).into_bytes();
+    }
     let at = if kind == b"07" { 2 * (1 + 53) } else { 2 * 3 };
     [&line[..at], b"00", &line[at + 2..]].concat()
+}
+
+/// Namespace, tag and message of a line of kind 0D, if it is a frame of at least 4 bytes.
+fn message_of(line: &[u8]) -> Option<(u8, u16, Vec<u8>)> {
+    let is_digit = |digit: &u8| matches!(digit, b'0'..=b'9' | b'A'..=b'F');
+    if line.len() % 2 == 1 || line.len() > 2 * FRAME || !line.iter().all(is_digit) {
+        return None;
+    }
+    match unhex(std::str::from_utf8(line).ok()?)[..] {
+        [0x0D, namespace, t0, t1, ref message @ ..] => {
+            Some((namespace, u16::from_le_bytes([t0, t1]), message.to_vec()))
+        }
+        _ => None,
+    }
+}
+
+/// Whether what looks like a Unique Identifier has a bad length.
+fn bad_key_uid(message: &[u8]) -> bool {
+    let mut heads = message.windows(8).filter(|head| head.starts_with(&[0x42, 0x00, 0x94, 0x07]));
+    heads.next().is_some_and(|head| {
+        let good = 1..=KEY_UID as u32;
+        !good.contains(&u32::from_be_bytes([head[4], head[5], head[6], head[7]]))
+    })
 }
 
 /// The slots behind the first 32 of each namespace.

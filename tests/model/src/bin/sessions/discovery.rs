@@ -109,13 +109,14 @@ fn nearly_its_line(folder: &mut Folder) {
         ("0C\t", "0701"),
         ("0x0C", "0701"),
         ("C0", "0702"),
-        ("0D", "0702"),
-        ("0D00", "0702"),
+        ("0D", "0703"),
+        ("0D00", "0703"),
         ("000C", "0702"),
     ];
     let lines = lines.map(|(line, answer)| (line.to_string(), answer));
-    let long = [("0C".repeat(70), "0703"), ("0C".repeat(71), "0701"), (discovery(), answer())];
-    folder.add("discovery-nearly-its-line", lines.into_iter().chain(long));
+    let long = [("0C".repeat(71), "0703"), ("0C".repeat(512), "0703"), ("0C".repeat(513), "0701")];
+    let right = [(discovery(), answer())];
+    folder.add("discovery-nearly-its-line", lines.into_iter().chain(long).chain(right));
 }
 
 fn line_ends(folder: &mut Folder) {

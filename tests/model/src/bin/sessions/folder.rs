@@ -42,6 +42,24 @@ impl Folder {
         self.raw(name, input, output);
     }
 
+    /// Sessions `NAME-1`, `NAME-2` and so on: each begins with the setup, has as many of the steps as fit and ends
+    /// with the proof.
+    pub fn add_in_parts(&mut self, name: &str, setup: Lines, steps: Vec<Lines>, proof: Lines) {
+        let bytes = |lines: &Lines| lines.iter().map(|(line, _)| line.len() + 1).sum::<usize>();
+        let most = INPUT - bytes(&setup) - bytes(&proof);
+        let mut parts: Vec<Lines> = Vec::new();
+        for step in steps {
+            match parts.last_mut() {
+                Some(part) if bytes(part) + bytes(&step) <= most => part.extend(step),
+                _ => parts.push(step),
+            }
+        }
+        for (part, lines) in parts.into_iter().enumerate() {
+            let lines = [setup.clone(), lines, proof.clone()].concat();
+            self.add(format!("{name}-{}", part + 1), lines);
+        }
+    }
+
     /// A session given as bytes, with its whole output.
     pub fn raw(
         &mut self,

@@ -10,6 +10,7 @@ const GET: &str = "000012000000\n";
 pub fn add(folder: &mut Folder) {
     few_digits(folder);
     many_digits(folder);
+    most_digits(folder);
     bad_bytes(folder);
     foreign_text(folder);
     lower_case(folder);
@@ -52,8 +53,8 @@ fn many_digits(folder: &mut Folder) {
             (load(1, 0, &old, 0x11), "0000"),
             (longest[..139].to_string(), "0701"),
             (format!("{longest}0"), "0701"),
-            (format!("{longest}00"), "0701"),
-            (replace(1, 0, &old, &"B1".repeat(17), 0x22), "0701"),
+            (format!("{longest}00"), "0703"),
+            (replace(1, 0, &old, &"B1".repeat(17), 0x22), "0704"),
             (longest[..138].to_string(), "0703"),
             (longest.clone(), "0000"),
             (longest, "070B"),
@@ -67,11 +68,45 @@ fn many_digits(folder: &mut Folder) {
             (zeros(139), "0701"),
             (zeros(140), "0702"),
             (zeros(141), "0701"),
-            (zeros(142), "0701"),
+            (zeros(142), "0702"),
             (zeros(143), "0701"),
-            (zeros(1000), "0701"),
+            (zeros(1000), "0702"),
             (zeros(1001), "0701"),
         ],
+    );
+}
+
+/// Four lines of 1,024 digits are too much for one input.
+fn most_digits(folder: &mut Folder) {
+    let line = |start: &str, digits: usize| start.to_string() + &"0".repeat(digits - start.len());
+    folder.add(
+        "line-1024-to-1026-digits",
+        [(line("", 1024), "0702"), (line("", 1025), "0701"), (line("", 1026), "0701")],
+    );
+    folder.add(
+        "line-1022-and-1023-digits",
+        [(line("", 1022), "0702"), (line("", 1023), "0701"), (line("", 1027), "0701")],
+    );
+    folder.add(
+        "line-1024-digits-of-known-kinds",
+        [
+            (line("0301000011", 1024), "0704"),
+            (line("07", 1024), "0703"),
+            (line("0D", 1024), "0717"),
+        ],
+    );
+    folder.add(
+        "line-1026-digits-of-known-kinds",
+        [
+            (line("0301000011", 1026), "0701"),
+            (line("07", 1026), "0701"),
+            (line("0D", 1026), "0701"),
+        ],
+    );
+    let last = line("FF", 1023);
+    folder.add(
+        "line-1024-digits-with-one-bad",
+        [(line("G", 1024), "0701"), (format!("{last}a"), "0701"), (format!("{last}A"), "0702")],
     );
 }
 
@@ -133,7 +168,8 @@ fn lower_case(folder: &mut Folder) {
             (read(1, 0, 0, 0), "0000"),
             ("0d".to_string(), "0701"),
             ("ff".to_string(), "0701"),
-            ("0D".to_string(), "0702"),
+            ("0D".to_string(), "0703"),
+            ("0E".to_string(), "0702"),
         ],
     );
 }
@@ -168,7 +204,7 @@ fn kinds(folder: &mut Folder) {
     let answer = |kind| match kind {
         0x09 => "000012000000",
         0x0C => discovery::answer(),
-        0x01..=0x0B => "0703",
+        0x01..=0x0D => "0703",
         _ => "0702",
     };
     folder.add("kind-every-byte-alone", (0..=255).map(|kind| (hex(&[kind]), answer(kind))));
@@ -177,21 +213,21 @@ fn kinds(folder: &mut Folder) {
         0x02 | 0x06 => "000B",
         0x0A => "011E",
         0x0B => "0000",
-        0x01..=0x0C => "0703",
+        0x01..=0x0D => "0703",
         _ => "0702",
     };
     folder.add("kind-every-byte-and-00", (0..=255).map(|kind| (hex(&[kind, 0]), answer(kind))));
 }
 
 fn unknown_kinds(folder: &mut Folder) {
-    for kind in [0x00, 0x0D, 0xFF] {
-        let lengths = |lengths: std::ops::RangeInclusive<usize>| {
-            lengths.map(move |length| (format!("{kind:02X}{}", "01".repeat(length - 1)), "0702"))
-        };
-        folder.add(format!("kind-{kind:02x}-of-1-to-60-bytes"), lengths(1..=60));
-        folder.add(format!("kind-{kind:02x}-of-61-to-70-bytes"), lengths(61..=70));
+    for kind in [0x00, 0x0E, 0xFF] {
+        let of = |length: usize| (format!("{kind:02X}{}", "01".repeat(length - 1)), "0702");
+        folder.add(format!("kind-{kind:02x}-of-1-to-60-bytes"), (1..=60).map(of));
+        folder.add(format!("kind-{kind:02x}-of-61-to-80-bytes"), (61..=80).map(of));
+        let long = [128, 255, 256, 257, 511, 512];
+        folder.add(format!("kind-{kind:02x}-of-128-to-512-bytes"), long.map(of));
     }
-    let others = [0x0D, 0x0E, 0x0F, 0x10, 0x11, 0x17, 0x19, 0x70, 0x7F, 0x80, 0x81, 0x90, 0xFE];
+    let others = [0x0E, 0x0F, 0x10, 0x11, 0x17, 0x19, 0x70, 0x7F, 0x80, 0x81, 0x90, 0xFE];
     folder.add(
         "kind-unknown-before-a-whole-command",
         others.map(|kind: u8| (format!("{kind:02X}{}", &read(1, 0, 0, 0)[2..]), "0702")),

@@ -1,6 +1,6 @@
 //! The sessions that are kept as files, for people: by family, which is a folder of `tests/sessions`.
 
-pub const KEPT: [(&str, &[&str]); 11] = [
+pub const KEPT: [(&str, &[&str]); 12] = [
     (
         "paper",
         &[
@@ -28,6 +28,8 @@ pub const KEPT: [(&str, &[&str]); 11] = [
         "line",
         &[
             "line-139-to-142-digits",
+            "line-1024-digits-of-known-kinds",
+            "line-1024-to-1026-digits",
             "line-carriage-return-line-feed",
             "line-empty-between",
             "line-every-bad-byte-as-first-digit",
@@ -115,6 +117,8 @@ pub const KEPT: [(&str, &[&str]); 11] = [
             "order-io-0001-before-000b-and-0080",
             "order-io-0025-before-0028",
             "order-manage-0707-before-0708",
+            "order-message-0706-before-0025-before-0709-before-070c",
+            "order-message-0717-before-0718-before-000b",
             "order-replace-0025-before-070a-070b-070c",
             "order-replace-070a-before-070b-and-070c",
             "order-replace-lengths",
@@ -129,6 +133,21 @@ pub const KEPT: [(&str, &[&str]); 11] = [
             "discovery-last-without-line-feed",
             "discovery-233-lines",
             "discovery-221-lines-and-204-empty",
+        ],
+    ),
+    (
+        "message",
+        &[
+            "message-worked",
+            "message-of-few-bytes-and-of-many",
+            "message-for-another-namespace-or-tag",
+            "message-key-uid-of-0-16-and-17",
+            "message-padding-not-zero",
+            "message-depth-8-and-9",
+            "message-members-in-another-order",
+            "message-algorithm-and-length-in-key-block",
+            "message-attribute-named-uid",
+            "message-namespace-id-twice",
         ],
     ),
 ];

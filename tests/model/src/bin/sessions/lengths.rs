@@ -1,4 +1,4 @@
-//! 07 03 of every kind, at every length a line can have, and every truncation of load and replace.
+//! 07 03 of every kind, at every length up to 70 bytes and some up to 512, and every truncation of load and replace.
 
 use model::lines::*;
 
@@ -21,12 +21,21 @@ pub fn add(folder: &mut Folder) {
     replace_bad_new_length_byte(folder);
 }
 
+/// The lengths past that of the longest frame without a message, few enough for one input.
+const LONG: [usize; 7] = [71, 72, 128, 255, 256, 257, 512];
+
 /// The frame cut to each number of bytes, filled up with zero bytes where it is shorter; every
 /// length but its own is refused, and then the proof shows that none of them took effect.
 fn at_every_length(folder: &mut Folder, name: &str, setup: Lines, frame: &str, proof: Lines) {
-    let filled = format!("{frame}{}", "00".repeat(70));
-    for (part, lengths) in [("to-50", 1..=50), ("from-51", 51..=70)] {
-        let others = lengths.map(|bytes| 2 * bytes).filter(|&digits| digits != frame.len());
+    let filled = format!("{frame}{}", "00".repeat(512));
+    let parts = [
+        ("to-50", (1..=50).collect()),
+        ("from-51", (51..=70).collect()),
+        ("from-71", LONG.to_vec()),
+    ];
+    for (part, lengths) in parts {
+        let others = lengths.into_iter().map(|bytes| 2 * bytes);
+        let others = others.filter(|&digits| digits != frame.len());
         let refused: Lines = others.map(|digits| (filled[..digits].to_string(), "0703")).collect();
         let lines = [setup.clone(), refused, proof.clone()].concat();
         folder.add(format!("length-{name}-{part}-bytes"), lines);
@@ -120,10 +129,17 @@ fn load_truncated(folder: &mut Folder) {
     }
 }
 
-/// A frame cut after each of some numbers of bytes; `first` is the first that holds the bad byte.
-fn cut_at_bytes(line: &str, cuts: std::ops::RangeInclusive<usize>, first: usize) -> Lines {
-    cuts.map(|bytes| (line[..2 * bytes].to_string(), if bytes < first { "0703" } else { "0704" }))
-        .collect()
+/// A line of a bad KeyUID length byte and zeros, cut after each of some numbers of bytes; `first` is
+/// the first that holds the bad byte.
+fn cut_at_bytes(line: &str, cuts: &[usize], first: usize) -> Lines {
+    let filled = format!("{line}{}", "00".repeat(512));
+    let answer = |bytes| if bytes < first { "0703" } else { "0704" };
+    cuts.iter().map(|&bytes| (filled[..2 * bytes].to_string(), answer(bytes))).collect()
+}
+
+/// All numbers of bytes up to 70, and some of those up to 512, in parts that fit an input.
+fn cuts() -> [Vec<usize>; 3] {
+    [(1..=54).collect(), (55..=70).collect(), LONG.to_vec()]
 }
 
 fn load_bad_length_byte(folder: &mut Folder) {
@@ -131,9 +147,9 @@ fn load_bad_length_byte(folder: &mut Folder) {
     let proof = vec![(clear_one(1, 0), "070A")];
     for length in [0x00, 0x11, 0xFF] {
         let frame = format!("03010000{length:02X}{}", "A5".repeat(65));
-        for cuts in [1..=54, 55..=70] {
-            let name = format!("load-key-uid-length-{length}-cut-from-{}", cuts.start());
-            let lines = [managed.clone(), cut_at_bytes(&frame, cuts, 5), proof.clone()].concat();
+        for cuts in cuts() {
+            let name = format!("load-key-uid-length-{length}-cut-from-{}", cuts[0]);
+            let lines = [managed.clone(), cut_at_bytes(&frame, &cuts, 5), proof.clone()].concat();
             folder.add(name, lines);
         }
     }
@@ -165,10 +181,10 @@ fn replace_truncated(folder: &mut Folder) {
 fn replace_bad_old_length_byte(folder: &mut Folder) {
     for length in [0x00, 0x11, 0xFF] {
         let frame = format!("04010000{length:02X}{}", "01".repeat(65));
-        for cuts in [1..=54, 55..=70] {
-            let name = format!("replace-old-length-{length}-cut-from-{}", cuts.start());
+        for cuts in cuts() {
+            let name = format!("replace-old-length-{length}-cut-from-{}", cuts[0]);
             let proof = vec![(replace(1, 0, "AA", "BB", 0x22), "0000")];
-            folder.add(name, [loaded(), cut_at_bytes(&frame, cuts, 5), proof].concat());
+            folder.add(name, [loaded(), cut_at_bytes(&frame, &cuts, 5), proof].concat());
         }
     }
     let bad = |length: &u8| !(1..=16).contains(length);
@@ -182,12 +198,12 @@ fn replace_bad_new_length_byte(folder: &mut Folder) {
         let lead = replace(1, 0, old, "BB", 0x22)[..2 * (first - 1)].to_string();
         for length in [0x00, 0x11, 0xFF] {
             let frame = format!("{lead}{length:02X}{}", "B5".repeat(70 - first));
-            for cuts in [1..=54, 55..=70] {
+            for cuts in cuts() {
                 let bytes = first - 6;
-                let from = cuts.start();
+                let from = cuts[0];
                 let name = format!("replace-old-of-{bytes}-new-length-{length}-cut-from-{from}");
                 let proof = vec![(replace(1, 0, old, "BB", 0x22), "0000")];
-                let cut = cut_at_bytes(&frame, cuts, first);
+                let cut = cut_at_bytes(&frame, &cuts, first);
                 folder.add(name, [setup.clone(), cut, proof].concat());
             }
         }

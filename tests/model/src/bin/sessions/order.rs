@@ -32,12 +32,12 @@ fn line_kind_length(folder: &mut Folder) {
     folder.add(
         "order-0701-before-0702",
         [
-            ("0D0".to_string(), "0701"),
-            ("0d".to_string(), "0701"),
-            ("0D\r".to_string(), "0701"),
-            ("FF".repeat(71), "0701"),
-            ("0D 0".to_string(), "0701"),
-            ("0D".to_string(), "0702"),
+            ("0E0".to_string(), "0701"),
+            ("0e".to_string(), "0701"),
+            ("0E\r".to_string(), "0701"),
+            ("FF".repeat(513), "0701"),
+            ("0E 0".to_string(), "0701"),
+            ("0E".to_string(), "0702"),
         ],
     );
     folder.add(
@@ -46,11 +46,12 @@ fn line_kind_length(folder: &mut Folder) {
             ("010".to_string(), "0701"),
             ("09\r".to_string(), "0701"),
             ("090g".to_string(), "0701"),
-            ("01".repeat(71), "0701"),
+            ("01".repeat(513), "0701"),
             ("030100001".to_string(), "0701"),
             ("03010000110".to_string(), "0701"),
             ("0301000011".to_string(), "0704"),
-            (format!("0301000011{}", "00".repeat(66)), "0701"),
+            (format!("0301000011{}", "00".repeat(507)), "0704"),
+            (format!("0301000011{}", "00".repeat(508)), "0701"),
         ],
     );
     folder.add(
@@ -58,9 +59,10 @@ fn line_kind_length(folder: &mut Folder) {
         [
             ("00".to_string(), "0702"),
             ("0001".to_string(), "0702"),
-            ("0D0102".to_string(), "0702"),
+            ("0E0102".to_string(), "0702"),
             ("FF01000011".to_string(), "0702"),
-            ("0D".repeat(70), "0702"),
+            ("0E".repeat(70), "0702"),
+            ("0E".repeat(512), "0702"),
         ],
     );
 }
@@ -91,6 +93,7 @@ fn length_first(folder: &mut Folder) {
             ("0B02".to_string() + LONG, "0703"),
             ("0900".to_string(), "0703"),
             ("0C00".to_string(), "0703"),
+            (io(0x00, 5, 0, 256, 0) + &LONG.repeat(447), "0703"),
         ],
     );
 }

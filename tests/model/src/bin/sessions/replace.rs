@@ -121,8 +121,8 @@ fn lengths(folder: &mut Folder) {
             (replace(1, 0, "AA", &"BB".repeat(17), 0x22), "0704"),
             (replace(1, 0, &"AA".repeat(15), &"BB".repeat(17), 0x22), "0704"),
             (replace(1, 0, &"AA".repeat(17), &"BB".repeat(15), 0x22), "0704"),
-            (replace(1, 0, &"AA".repeat(16), &"BB".repeat(17), 0x22), "0701"),
-            (replace(1, 0, &"AA".repeat(17), &"BB".repeat(16), 0x22), "0701"),
+            (replace(1, 0, &"AA".repeat(16), &"BB".repeat(17), 0x22), "0704"),
+            (replace(1, 0, &"AA".repeat(17), &"BB".repeat(16), 0x22), "0704"),
             (replace(1, 0, "AA", "BB", 0x22), "0000"),
         ],
     );

@@ -6,7 +6,7 @@ use model::session_room;
 use crate::dice::Dice;
 use crate::walk::Walk;
 
-pub const SEEDS: std::ops::RangeInclusive<u64> = 1..=1200;
+pub const SEEDS: std::ops::RangeInclusive<u64> = 1..=1400;
 
 /// Most sessions end between two lines; one in `OF` has each of these ends instead.
 const OF: u64 = 40;

@@ -11,7 +11,7 @@ const LEAST: usize = 20;
 const RESPONSES: &str = "responses";
 
 /// All that the program can print but 00 00.
-const REFUSALS: [u16; 21] = [
+const REFUSALS: [u16; 23] = [
     OPCODE,
     FIELD,
     NAMESPACE,
@@ -33,6 +33,8 @@ const REFUSALS: [u16; 21] = [
     OLD_KEY_UID,
     OTHER_KEY,
     OUTPUT,
+    MESSAGE,
+    MESSAGE_KEY_UID,
 ];
 
 #[derive(Default)]

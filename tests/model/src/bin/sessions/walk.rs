@@ -2,10 +2,13 @@
 //! then a number at or past its limit, and one line in five broken at one place.
 
 use model::lines::*;
-use model::numbers::{BLOCKS, DISCOVERY_ROOM, HEAD, KEY, NAMESPACES, POOL, SLOT, STORE, TAGS};
+use model::numbers::{
+    BLOCKS, DISCOVERY_ROOM, FRAME, HEAD, KEY, NAMESPACES, POOL, REPLACE, SLOT, STORE, TAGS,
+};
 use model::Drive;
 
 use crate::dice::Dice;
+use crate::spoilt;
 
 const BROKEN: usize = 5;
 
@@ -17,6 +20,8 @@ pub struct Walk {
     uids: Vec<String>,
     /// Where most of its commands begin, so that reads meet writes.
     firsts: Vec<u64>,
+    /// One line in so many is a load in KMIP form, of which an input holds no more than five.
+    messages: usize,
 }
 
 impl Walk {
@@ -24,7 +29,8 @@ impl Walk {
         let mut dice = Dice::new(seed);
         let uids = key_uids(&mut dice);
         let firsts = (0..2).map(|_| dice.below(BLOCKS) as u64).chain([0, 0, 255]).collect();
-        Walk { dice, drive: Drive::fresh(), marks: [0; STORE], uids, firsts }
+        let messages = dice.pick(&[4, 150, 150, 150]);
+        Walk { dice, drive: Drive::fresh(), marks: [0; STORE], uids, firsts, messages }
     }
 
     pub fn line(&mut self) -> Vec<u8> {
@@ -42,6 +48,9 @@ impl Walk {
         if !managed && !self.dice.once_in(4) {
             return self.manage();
         }
+        if self.dice.once_in(self.messages) {
+            return self.message();
+        }
         if !loaded && self.dice.once_in(2) {
             return self.load();
         }
@@ -56,7 +65,7 @@ impl Walk {
             43 => get_features(),
             44..=45 => boot_write(self.dice.pick(&[0, 1, 0, 1, 0, 1, 2, 255])),
             46..=47 => hex(&[0x0B, self.dice.pick(&[0, 0, 0, 1, 1, 2])]),
-            _ => discovery() + &"00".repeat(self.dice.pick(&[0, 0, 0, 0, 0, 1, 2, 69])),
+            _ => discovery() + &"00".repeat(self.dice.pick(&[0, 0, 0, 0, 0, 1, 2, REPLACE])),
         }
     }
 
@@ -132,6 +141,15 @@ impl Walk {
         load_key(namespace, tag, &uid, &key)
     }
 
+    fn message(&mut self) -> String {
+        let namespace = self.namespace();
+        let loaded = self.dice.once_in(8);
+        let tag = self.tag(namespace, loaded);
+        let (uid, key) = self.material();
+        let message = spoilt::message(&mut self.dice, namespace, tag, &unhex(&uid), &key);
+        message_frame(namespace, tag, &message)
+    }
+
     fn replace(&mut self) -> String {
         let namespace = self.namespace();
         let loaded = !self.dice.once_in(8);
@@ -195,7 +213,7 @@ impl Walk {
         let mut line = frame.into_bytes();
         let near = if self.dice.once_in(2) { line.len() } else { line.len().min(12) };
         let at = self.dice.below(near);
-        match self.dice.below(14) {
+        match self.dice.below(15) {
             0 | 1 => line[at] = self.dice.pick(b"0123456789ABCDEF"),
             2 => line[at] = self.dice.pick(b"abcdefgG /:@`\r\0\xFF"),
             3 => drop(line.remove(at)),
@@ -206,6 +224,11 @@ impl Walk {
             8 => line.push(b'\r'),
             9 => line.make_ascii_lowercase(),
             10 => line.clear(),
+            11 => {
+                let most = 2 * self.dice.pick(&[REPLACE, REPLACE, REPLACE, FRAME]);
+                let digits = (most + self.dice.below(4)).saturating_sub(1);
+                line.resize(digits.max(line.len()), b'0');
+            }
             _ => {
                 let limits = [0x00, 0x01, 0x0F, 0x10, 0x11, 0x7F, 0x80, 0x81, 0xFF];
                 let byte = hex(&[self.dice.pick(&limits)]);
