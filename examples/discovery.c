@@ -24,7 +24,7 @@ static const struct known abilities[] = {
     {"a read with a wrong key is noticed", TUFFALEEN_INCORRECT_KEY_DETECTION_SUPPORTED, 1},
     {"a key comes without a tweak key", TUFFALEEN_SHARED_TWEAK_KEY_REQUIRED, 1},
     {"all namespaces are managed together", TUFFALEEN_SCOPE, 0},
-    {"a key may come in a KMIP message", TUFFALEEN_KMIP_KEY_INJECTION_SUPPORTED, 0},
+    {"a key may come in a KMIP message", TUFFALEEN_KMIP_KEY_INJECTION_SUPPORTED, 1},
     {"a key may come wrapped with AES-KW", TUFFALEEN_AES_KW_SUPPORTED, 0},
     {"replays are kept out", TUFFALEEN_REPLAY_PROTECTION_SUPPORTED, 0},
 };

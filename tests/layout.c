@@ -50,7 +50,7 @@ static uint16_t ask(const char *line)
 
 static uint16_t ask_frame(const uint8_t *frame, size_t len)
 {
-    char line[140];
+    static char line[ROOM];
     for (size_t i = 0; i < len; i++) {
         line[2 * i] = "0123456789ABCDEF"[frame[i] >> 4];
         line[2 * i + 1] = "0123456789ABCDEF"[frame[i] & 15];
@@ -72,22 +72,57 @@ static void manage(int ns, int tags)
     CHECK(answer == TUFFALEEN_DONE, "%d tags for namespace %d: %04X", tags, ns, answer);
 }
 
-/* Loads a KeyUID of 1 to 16 bytes that no other slot gets, and tells the bytes that its slot must have. Tags that get
- * one length are 16 apart. */
-static void load(int ns, int tag, uint8_t slot[49])
+/* The bytes that a slot gets: a KeyUID of 1 to 16 bytes that no other has. Tags that get one length are 16 apart. */
+static void lay_slot(int ns, int tag, uint8_t slot[49])
 {
-    int len = tag % 16 + 1;
-    uint8_t frame[53] = {0x03, ns, tag, 0, len};
     memset(slot, 0, 49);
-    slot[0] = len;
-    for (int i = 0; i < len; i++)
+    slot[0] = tag % 16 + 1;
+    for (int i = 0; i < slot[0]; i++)
         slot[1 + i] = ns + tag + i;
     for (int i = 0; i < 32; i++)
         slot[17 + i] = 255 - ns - tag - 3 * i;
+}
+
+/* Loads these bytes, and tells them. */
+static void load(int ns, int tag, uint8_t slot[49])
+{
+    lay_slot(ns, tag, slot);
+    uint8_t len = slot[0], frame[53] = {0x03, ns, tag, 0, len};
     memcpy(frame + 5, slot + 1, len);
     memcpy(frame + 5 + len, slot + 17, 32);
     uint16_t answer = ask_frame(frame, 37 + len);
     CHECK(answer == TUFFALEEN_DONE, "load under tag %d of namespace %d: %04X", tag, ns, answer);
+}
+
+/* The message that brings a slot's KeyUID and key, cut to these lengths or with more bytes. It stands at `out`. */
+static uint16_t write_message(int ns, int tag, const uint8_t slot[49], size_t uid_len, size_t key_len, size_t out_len)
+{
+    static uint8_t uid[ROOM], key[ROOM];
+    memcpy(uid, slot + 1, 16);
+    memcpy(key, slot + 17, 32);
+    memset(out, UNTOUCHED, ROOM);
+    written = ROOM;
+    return tuffaleen_message(ns, tag, uid, uid_len, key, key_len, out, out_len, &written);
+}
+
+/* Lays the frame that brings the message at `out`, and tells its length. */
+static size_t lay_message_frame(uint8_t *frame, int ns, int tag)
+{
+    memcpy(frame, (uint8_t[]){0x0D, ns, tag, 0}, 4);
+    memcpy(frame + 4, out, written);
+    return 4 + written;
+}
+
+/* The same bytes as `load`, by a message. */
+static void load_by_message(int ns, int tag, uint8_t slot[49])
+{
+    static uint8_t frame[ROOM];
+    lay_slot(ns, tag, slot);
+    uint16_t answer = write_message(ns, tag, slot, slot[0], 32, TUFFALEEN_MESSAGE_BYTES);
+    CHECK(answer == TUFFALEEN_DONE && written == (slot[0] > 8 ? 408 : 400),
+          "a message with a KeyUID of %d: %04X, %d bytes", slot[0], answer, (int)written);
+    answer = ask_frame(frame, lay_message_frame(frame, ns, tag));
+    CHECK(answer == TUFFALEEN_DONE, "load by message under tag %d of namespace %d: %04X", tag, ns, answer);
 }
 
 static void await_as_now(void)
@@ -180,13 +215,57 @@ static void check_line_length(void)
     CHECK(answer == TUFFALEEN_UNKNOWN_KIND, "the longest line: %04X", answer);
     answer = ask_text(digits, TUFFALEEN_LINE_BYTES + 2);
     CHECK(answer == TUFFALEEN_NOT_A_FRAME_LINE, "two digits above the longest line: %04X", answer);
+}
 
-    const char *longest = "04010000" UID_16 UID_16 KEY_1;
-    CHECK(strlen(longest) == TUFFALEEN_LINE_BYTES, "the longest frame has %d digits", (int)strlen(longest));
+/* Without a message no frame has more than 140 digits; longer lines are read all the same. */
+static void check_line_without_message(void)
+{
+    static const struct { size_t len; uint16_t answer; } lines[] = {
+        {138, TUFFALEEN_WRONG_FRAME_LENGTH},
+        {142, TUFFALEEN_WRONG_FRAME_LENGTH},
+        {TUFFALEEN_LINE_BYTES, TUFFALEEN_WRONG_FRAME_LENGTH},
+        {TUFFALEEN_LINE_BYTES + 2, TUFFALEEN_NOT_A_FRAME_LINE},
+        {140, TUFFALEEN_DONE},
+    };
+    static char digits[ROOM];
+    memset(digits, '0', ROOM);
+    memcpy(digits, "04010000" UID_16 UID_16 KEY_1, 140);
+    start();
     manage(1, 1);
     ask("03010000" UID_16 KEY_1);
-    answer = ask(longest);
-    CHECK(answer == TUFFALEEN_DONE, "the longest frame: %04X", answer);
+    for (size_t i = 0; i < sizeof lines / sizeof *lines; i++) {
+        uint16_t answer = ask_text(digits, lines[i].len);
+        CHECK(answer == lines[i].answer, "a replace of %d digits: %04X", (int)lines[i].len, answer);
+    }
+}
+
+/* The longest message has 504 bytes: one with a KeyUID of 16, and at its end an item of 8 bytes and 88 that nothing
+ * asks for. With bytes behind it, it is no message. */
+static void check_longest_message(void)
+{
+    static const struct { size_t digits; uint16_t answer; } lines[] = {
+        {TUFFALEEN_LINE_BYTES + 2, TUFFALEEN_NOT_A_FRAME_LINE},
+        {TUFFALEEN_LINE_BYTES, TUFFALEEN_NOT_A_MESSAGE},
+        {2 * (4 + 504) + 2, TUFFALEEN_NOT_A_MESSAGE},
+        {2 * (4 + 504) - 2, TUFFALEEN_NOT_A_MESSAGE},
+        {2 * (4 + 504), TUFFALEEN_DONE},
+    };
+    static uint8_t frame[ROOM];
+    uint8_t slot[49];
+    lay_slot(1, 15, slot);
+    start();
+    manage(1, 16);
+    await_as_now();
+    lay(awaited_image, TUFFALEEN_SLOT_AT(1, 15), slot, sizeof slot);
+    write_message(1, 15, slot, 16, 32, TUFFALEEN_MESSAGE_BYTES);
+    size_t end = lay_message_frame(frame, 1, 15);
+    memcpy(frame + end, (uint8_t[]){0x54, 0x00, 0x01, 0x08, 0, 0, 0, 88}, 8);
+    memcpy(frame + 4 + 4, (uint8_t[]){0, 0, 496 >> 8, 496 & 0xFF}, 4);
+    for (size_t i = 0; i < sizeof lines / sizeof *lines; i++) {
+        uint16_t answer = ask_frame(frame, lines[i].digits / 2);
+        CHECK(answer == lines[i].answer, "a message in a line of %d digits: %04X", (int)lines[i].digits, answer);
+    }
+    CHECK(as_awaited(), "the slot that the longest message brings");
 }
 
 static void check_counts(void)
@@ -234,7 +313,7 @@ static void check_locks(void)
     }
 }
 
-static int check_slots(void)
+static int check_slots(void (*load_slot)(int, int, uint8_t[49]))
 {
     int seen = 0;
     for (int ns = 1; ns <= 4; ns++) {
@@ -244,7 +323,7 @@ static int check_slots(void)
         for (int tag = 0; tag < 128; tag++) {
             uint8_t slot[49];
             await_as_now();
-            load(ns, tag, slot);
+            load_slot(ns, tag, slot);
             lay(awaited_image, TUFFALEEN_SLOT_AT(ns, tag), slot, sizeof slot);
             CHECK(as_awaited(), "the slot of namespace %d, tag %d", ns, tag);
             seen++;
@@ -348,6 +427,27 @@ static const char *const before[] = {
 
 #define OF(name) #name, name
 
+/* A load to namespace 1, tag 2, by a message whose KeyUID is empty: item by item, tag, type and length, then the value
+ * with its padding. */
+#define EMPTY_KEY_UID \
+    "0D010200" "4200780100000180" /* Request Message */ \
+    "4200770100000038" "4200690100000020" /* Request Header, Protocol Version */ \
+    "42006A0200000004" "0000000200000000" "42006B0200000004" "0000000000000000" /* 2, 0 */ \
+    "42000D0200000004" "0000000100000000" /* Batch Count */ \
+    "42000F0100000138" "42005C0500000004" "0000002A00000000" /* Batch Item, Operation: Import */ \
+    "4200790100000120" "4200940700000000" /* Request Payload, Unique Identifier */ \
+    "4200570500000004" "0000000200000000" /* Object Type: Symmetric Key */ \
+    "42012501000000B0" "42002B0100000030" /* Attributes, Cryptographic Parameters */ \
+    "4200830500000004" "0000000300000000" /* Key Role Type: DEK */ \
+    "4200280500000004" "0000000300000000" "42002A0200000004" "0000010000000000" /* AES, 256 */ \
+    "4200080100000038" "42009D0700000007" "5443472D53574700" /* Attribute: TCG-SWG */ \
+    "42000A070000000B" "4E616D65737061636549440000000000" /* NamespaceID */ \
+    "42000B0200000004" "0000000100000000" \
+    "4200080100000030" "42009D0700000007" "5443472D53574700" /* Attribute: TCG-SWG */ \
+    "42000A0700000006" "4B65795461670000" "42000B0200000004" "0000000200000000" /* KeyTag */ \
+    "42008F0100000048" "4200400100000040" "4200420500000004" "0000000100000000" /* Symmetric Key, Key Block, Raw */ \
+    "4200450100000028" "4200430800000020" KEY_1 /* Key Value, Key Material */
+
 static const struct { const char *name; uint16_t number; const char *digits, *line; } answers[] = {
     {OF(TUFFALEEN_DONE), "0000", "0B00"},
     {OF(TUFFALEEN_INVALID_OPCODE), "0001", IO("03", "00", "00", "00")},
@@ -370,6 +470,8 @@ static const struct { const char *name; uint16_t number; const char *digits, *li
     {OF(TUFFALEEN_SLOT_EMPTY), "070A", "05010200"},
     {OF(TUFFALEEN_OLD_KEY_UID), "070B", "0401000001BB01CC" KEY_1},
     {OF(TUFFALEEN_OTHER_KEY), "070C", "0301020001AA" KEY_2},
+    {OF(TUFFALEEN_NOT_A_MESSAGE), "0717", "0D010200"},
+    {OF(TUFFALEEN_MESSAGE_KEY_UID), "0718", EMPTY_KEY_UID},
 };
 
 /* The answers that refuse a call: for them the buffers are of other lengths, and no digits are written. */
@@ -471,6 +573,7 @@ static const struct { int place; uint32_t number; } own_fields[] = {
     {TUFFALEEN_SHARED_TWEAK_KEY_REQUIRED, 1},
     {TUFFALEEN_ENABLED, 1},
     {TUFFALEEN_MAXIMUM_KEY_UID_LENGTH, 16},
+    {TUFFALEEN_KMIP_KEY_INJECTION_SUPPORTED, 1},
     {TUFFALEEN_TOTAL_NUMBER_OF_KEY_TAGS, 256},
     {TUFFALEEN_MAXIMUM_KEY_TAGS_PER_NAMESPACE, 128},
 };
@@ -659,6 +762,54 @@ static int check_no_responses(void)
     return 1;
 }
 
+static int is_blank(size_t from)
+{
+    int same = 1;
+    for (size_t i = from; i < ROOM; i++)
+        same &= out[i] == UNTOUCHED;
+    return same;
+}
+
+/* A KeyUID of 8 bytes makes the shorter message, one of 9 the longer; the room is the same. */
+static void check_message_room(void)
+{
+    uint8_t slot[49];
+    lay_slot(1, 15, slot);
+    for (size_t uid_len = 8; uid_len <= 9; uid_len++) {
+        uint16_t answer = write_message(1, 15, slot, uid_len, 32, TUFFALEEN_MESSAGE_BYTES);
+        CHECK(answer == TUFFALEEN_DONE && written == (uid_len == 8 ? 400 : 408) && is_blank(written),
+              "a message with room for %d bytes: %04X, %d bytes", TUFFALEEN_MESSAGE_BYTES, answer, (int)written);
+        answer = write_message(1, 15, slot, uid_len, 32, TUFFALEEN_MESSAGE_BYTES - 1);
+        CHECK(answer == TUFFALEEN_OUTPUT_TOO_SHORT && written == 0 && is_blank(0),
+              "a message with room for %d bytes: %04X, %d bytes", TUFFALEEN_MESSAGE_BYTES - 1, answer, (int)written);
+    }
+}
+
+/* What the writer refuses, in the order in which it looks: where several hold, the first is told. */
+static const struct { uint16_t answer; size_t uid_len, key_len; int out_off; } no_messages[] = {
+    {TUFFALEEN_OUTPUT_TOO_SHORT, 0, 31, -1},
+    {TUFFALEEN_OUTPUT_TOO_SHORT, 1, 32, -TUFFALEEN_MESSAGE_BYTES},
+    {TUFFALEEN_NOT_A_MESSAGE, 0, 31, 0},
+    {TUFFALEEN_NOT_A_MESSAGE, 17, 33, 1},
+    {TUFFALEEN_NOT_A_MESSAGE, 1, 0, 0},
+    {TUFFALEEN_MESSAGE_KEY_UID, 0, 32, 0},
+    {TUFFALEEN_MESSAGE_KEY_UID, 17, 32, 1},
+};
+
+static void check_no_messages(void)
+{
+    uint8_t slot[49];
+    lay_slot(1, 15, slot);
+    for (size_t i = 0; i < sizeof no_messages / sizeof *no_messages; i++) {
+        size_t uid_len = no_messages[i].uid_len, key_len = no_messages[i].key_len;
+        size_t out_len = TUFFALEEN_MESSAGE_BYTES + no_messages[i].out_off;
+        uint16_t answer = write_message(1, 15, slot, uid_len, key_len, out_len);
+        CHECK(answer == no_messages[i].answer && written == 0 && is_blank(0),
+              "a message of a KeyUID of %d and a key of %d, room off by %d: %04X, %d bytes", (int)uid_len, (int)key_len,
+              no_messages[i].out_off, answer, (int)written);
+    }
+}
+
 /* What version 2 stored, by its own numbers: tag counts of 32, 31, 0 and 1, and AA as the KeyUID of namespace 4, block
  * 255. Made anew from that after a loss of power, the drive is sound and tells the block as written under AA. */
 static void check_stored_by_2(void)
@@ -691,9 +842,9 @@ static void check_version(void)
     CHECK(as_in_3 == (TUFFALEEN_LAYOUT_VERSION == 3), "layout version %d", TUFFALEEN_LAYOUT_VERSION);
 }
 
-int main(void)
+/* With a wrong one of these the others would fail too. */
+static void check_sizes(void)
 {
-    int slots = 0, written_marks = 0, numbers = 0, names = 0;
     check_fresh();
     check_buffer(0, 0, TUFFALEEN_DONE);
     for (int off = -1; off <= 1; off += 2) {
@@ -704,23 +855,39 @@ int main(void)
     check_discovery_output();
     check_line_length();
     check_discovery_room();
+    check_message_room();
+}
+
+static void check_all_features(void)
+{
+    for (int off = -1; off <= 1; off++) {
+        check_features(-1, 0x2C + off);
+        check_features(0x0C + off, -1);
+        check_features(0x0C + off, 0x2C - off);
+    }
+    check_features(-1, -1);
+    check_features(0, 0);
+}
+
+int main(void)
+{
+    int slots = 0, written_marks = 0, numbers = 0, names = 0;
+    check_sizes();
     if (failures == 0) {
+        check_line_without_message();
+        check_longest_message();
+        check_no_messages();
         check_counts();
         check_locks();
-        slots = check_slots();
+        slots = check_slots(load);
+        CHECK(check_slots(load_by_message) == slots, "the slots that messages bring");
         check_cleared_slots();
         written_marks = check_marks();
         check_soundness();
         check_stored_by_2();
         check_own_response();
         names = check_fields();
-        for (int off = -1; off <= 1; off++) {
-            check_features(-1, 0x2C + off);
-            check_features(0x0C + off, -1);
-            check_features(0x0C + off, 0x2C - off);
-        }
-        check_features(-1, -1);
-        check_features(0, 0);
+        check_all_features();
         numbers = check_line_answers() + check_call_answers() + check_no_responses();
     }
     check_version();

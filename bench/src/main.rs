@@ -1,24 +1,49 @@
 //! How long the proved drive takes beside the model, which is ordinary Rust. `bench/run`.
 
 mod clock;
+mod messages;
 mod mix;
 mod race;
 mod series;
 
 use model::lines::{clear_all, power_cycle, read};
 use model::numbers::POOL;
-use race::{lines, sessions, Times, ROUNDS};
+use race::{lines, sessions, Course, Times, ROUNDS};
 
 const FRAMES: usize = 100_000;
+const MESSAGES: usize = 20_000;
 
 fn main() {
-    let (mixed, told) = mix::mixed(FRAMES);
-    println!("{FRAMES} mixed frames as one session, {} bytes of text:", mixed.text.len());
-    println!("{told}\n");
+    let (first, told) = mix::mixed(FRAMES, mix::FIRST);
+    tell(&format!("{FRAMES} mixed frames"), &first, &told);
+    let (all_kinds, told) = mix::mixed(FRAMES, mix::ALL_KINDS);
+    tell(&format!("{FRAMES} frames of all kinds"), &all_kinds, &told);
+    let (messages, told) = messages::messages(MESSAGES);
+    tell(&format!("{MESSAGES} loads by message"), &messages, &told);
+
     println!("Nanoseconds of processor time a frame, best of {ROUNDS} runs in turn:");
     println!("{:<46}{:>9}{:>9}{:>9}", "", "proved", "model", "ratio");
-    let whole = sessions(&mixed);
-    print("mixed frames, one session", whole);
+    let of_first = print("mixed frames, one session", sessions(&first));
+    print_loads();
+    print_io();
+    print_by_tags();
+    print("mixed, call by call; model on its own state", lines(&first, false));
+    print("mixed, call by call; model from and to image", lines(&first, true));
+    let of_all = print("frames of all kinds, one session", sessions(&all_kinds));
+    let of_messages = print("loads by message, half damaged, one session", sessions(&messages));
+    print_messages();
+
+    println!();
+    judge(&format!("{FRAMES} mixed frames"), of_first);
+    judge(&format!("{FRAMES} frames of all kinds"), of_all);
+    judge(&format!("{MESSAGES} loads by message"), of_messages);
+}
+
+fn tell(what: &str, course: &Course, told: &str) {
+    println!("{what} as one session, {} bytes of text:\n{told}\n", course.text.len());
+}
+
+fn print_loads() {
     for (in_byte, place) in [(0, "first"), (15, "last")] {
         for others in [0, POOL / 4, POOL - 1] {
             let what = format!("load and clear, {others} others, {place} byte differs");
@@ -29,26 +54,46 @@ fn main() {
         let what = format!("load and clear, {others} others, mixed lengths");
         print(&what, sessions(&series::loads_of_mixed_lengths(others)));
     }
+}
+
+fn print_io() {
     for blocks in [1, 16, 256] {
         print(&format!("write, {blocks} blocks"), sessions(&series::writes(blocks)));
     }
     for blocks in [1, 16, 256] {
         print(&format!("read, {blocks} blocks"), sessions(&series::reads(blocks)));
     }
+}
+
+fn print_by_tags() {
     for (all, managed) in [(false, "4 tags"), (true, "all tags")] {
         let row = |what: &str| format!("{what}, 4 keys, {managed} managed");
         print(&row("power cycle"), sessions(&series::four_keys(all, &power_cycle())));
         print(&row("clear all"), sessions(&series::four_keys(all, &clear_all(1))));
         print(&row("a call"), lines(&series::four_keys(all, &read(1, 0, 0, 0)), false));
     }
-    print("mixed, call by call; model on its own state", lines(&mixed, false));
-    print("mixed, call by call; model from and to image", lines(&mixed, true));
-    println!(
-        "\nbench: {FRAMES} mixed frames: proved / model = {:.2}; the goal is at most 1.0, above 1.5 is a fault",
-        whole.ratio()
-    );
 }
 
-fn print(what: &str, times: Times) {
+fn print_messages() {
+    for (others, more) in [(0, 0), (POOL - 1, 0), (0, 13)] {
+        let what = format!("message and clear, {others} others, {} items", 29 + more);
+        print(&what, sessions(&series::messages(others, more)));
+    }
+    // Of the last one the items are not sound, of the others they are.
+    for (at, what) in [(0, "first tag"), (259, "namespace"), (363, "last type")] {
+        let what = format!("message refused for its {what}");
+        print(&what, sessions(&series::refused_messages(at)));
+    }
+}
+
+fn print(what: &str, times: Times) -> Times {
     println!("{what:<46}{:>9.1}{:>9.1}{:>9.2}", times.proved, times.model, times.ratio());
+    times
+}
+
+fn judge(what: &str, times: Times) {
+    println!(
+        "bench: {what}: proved / model = {:.2}; the goal is at most 1.0, above 1.5 is a fault",
+        times.ratio()
+    );
 }

@@ -4,32 +4,67 @@ use std::collections::BTreeMap;
 
 use embed::Rng;
 use model::lines::*;
-use model::numbers::{BLOCKS, NAMESPACES, POOL, ROOM, SLOT, STORE, TAGS};
+use model::numbers::{BLOCKS, DISCOVERY_ROOM, FRAME, NAMESPACES, POOL, SLOT, STORE, TAGS};
 use model::Drive;
 
+use crate::messages::damaged;
 use crate::race::Course;
 
 const SEED: u64 = 11;
 /// Tags that each namespace gets, so that the four share the whole pool.
 const TAGS_EACH: u8 = (POOL / NAMESPACES) as u8;
 
-/// How often each kind comes, in turns of 1000; what is left are lines that are no frame.
+/// What is mixed.
+pub struct Recipe {
+    /// How often each kind comes, in turns of 1000; what is left are lines that are no frame.
+    kinds: &'static [(u8, usize)],
+    /// Digits of the longest of these.
+    longest: usize,
+}
+
 const TURNS: usize = 1000;
-const KINDS: [(u8, usize); 11] = [
-    (0x01, 20),
-    (0x02, 3),
-    (0x03, 160),
-    (0x04, 100),
-    (0x05, 50),
-    (0x06, 3),
-    (0x07, 500),
-    (0x08, 40),
-    (0x09, 30),
-    (0x0A, 30),
-    (0x0B, 10),
-];
+
+/// The same text since request 11, so that its figures can be compared. Its longest lines were too
+/// long until lines had 1,024 digits, and are of a wrong length now.
+pub const FIRST: Recipe = Recipe {
+    kinds: &[
+        (0x01, 20),
+        (0x02, 3),
+        (0x03, 160),
+        (0x04, 100),
+        (0x05, 50),
+        (0x06, 3),
+        (0x07, 500),
+        (0x08, 40),
+        (0x09, 30),
+        (0x0A, 30),
+        (0x0B, 10),
+    ],
+    longest: 142,
+};
+
+/// Every kind that there is.
+pub const ALL_KINDS: Recipe = Recipe {
+    kinds: &[
+        (0x01, 20),
+        (0x02, 3),
+        (0x03, 150),
+        (0x04, 100),
+        (0x05, 50),
+        (0x06, 3),
+        (0x07, 465),
+        (0x08, 40),
+        (0x09, 30),
+        (0x0A, 30),
+        (0x0B, 10),
+        (0x0C, 5),
+        (0x0D, 40),
+    ],
+    longest: 2 * FRAME + 2,
+};
 
 pub struct Mix {
+    recipe: Recipe,
     rng: Rng,
     drive: Drive,
     marks: Vec<u8>,
@@ -39,11 +74,8 @@ pub struct Mix {
 }
 
 /// A course of so many mixed frames from fresh, and what is in it, told in two lines.
-pub fn mixed(frames: usize) -> (Course, String) {
-    let mut marks = vec![0; STORE];
-    let (_, drive) = Drive::start(&mut marks);
-    let (kinds, answers) = (BTreeMap::new(), BTreeMap::new());
-    let mut mix = Mix { rng: Rng::new(SEED), drive, marks, text: Vec::new(), kinds, answers };
+pub fn mixed(frames: usize, recipe: Recipe) -> (Course, String) {
+    let mut mix = Mix::new(recipe);
     for namespace in 1..=NAMESPACES as u8 {
         mix.add(manage(namespace, TAGS_EACH));
     }
@@ -57,14 +89,22 @@ pub fn mixed(frames: usize) -> (Course, String) {
     (course, told)
 }
 
-fn counts(counts: &BTreeMap<String, usize>) -> String {
+pub fn counts(counts: &BTreeMap<String, usize>) -> String {
     counts.iter().map(|(name, count)| format!("{name} {count}")).collect::<Vec<_>>().join(", ")
 }
 
 impl Mix {
+    fn new(recipe: Recipe) -> Mix {
+        let mut marks = vec![0; STORE];
+        let (_, drive) = Drive::start(&mut marks);
+        let (kinds, answers) = (BTreeMap::new(), BTreeMap::new());
+        let (rng, text) = (Rng::new(SEED), Vec::new());
+        Mix { recipe, rng, drive, marks, text, kinds, answers }
+    }
+
     /// The drive goes along, so that what comes next fits it.
     fn add(&mut self, line: String) {
-        let mut out = [0; ROOM];
+        let mut out = [0; DISCOVERY_ROOM];
         let (number, _) = self.drive.line(&mut self.marks, line.as_bytes(), &mut out);
         *self.kinds.entry(line.get(..2).unwrap_or("none").to_string()).or_default() += 1;
         *self.answers.entry(format!("{number:04X}")).or_default() += 1;
@@ -74,7 +114,7 @@ impl Mix {
 
     fn line(&mut self) -> String {
         let kind = self.kind();
-        let (namespace, tag) = self.place(kind != Some(0x03));
+        let (namespace, tag) = self.place(!matches!(kind, Some(0x03 | 0x0D)));
         match kind {
             Some(0x01) => manage(namespace, TAGS_EACH),
             Some(0x02) => release(namespace),
@@ -88,6 +128,8 @@ impl Mix {
             Some(0x0A) => boot_write(self.rng.below(2) as u8),
             Some(0x0B) if self.rng.once_in(8) => power_cycle(),
             Some(0x0B) => controller_reset(),
+            Some(0x0C) => discovery(),
+            Some(0x0D) => self.load_by_message(namespace, tag),
             _ => self.no_frame(),
         }
     }
@@ -106,7 +148,7 @@ impl Mix {
 
     fn kind(&mut self) -> Option<u8> {
         let mut turn = self.rng.below(TURNS);
-        for (kind, turns) in KINDS {
+        for &(kind, turns) in self.recipe.kinds {
             if turn < turns {
                 return Some(kind);
             }
@@ -127,6 +169,15 @@ impl Mix {
     fn load(&mut self, namespace: u8, tag: u16) -> String {
         let (uid, key) = self.material();
         load(namespace, tag, &uid, key)
+    }
+
+    /// One in four is damaged.
+    fn load_by_message(&mut self, namespace: u8, tag: u16) -> String {
+        let (uid, key) = self.material();
+        match self.rng.once_in(4) {
+            true => damaged(&mut self.rng, namespace, tag, &uid, key),
+            false => message_load(namespace, tag, &uid, key),
+        }
     }
 
     fn replace(&mut self, namespace: u8, tag: u16) -> String {
@@ -153,7 +204,7 @@ impl Mix {
             1 => whole.to_lowercase().replace('0', "o"),
             2 => whole[..129].to_string(),
             3 => whole[..128].to_string(),
-            4 => whole + "000000000000",
+            4 => format!("{whole:0<0$}", self.recipe.longest),
             _ => "FF".to_string() + &whole[2..],
         }
     }

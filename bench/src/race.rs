@@ -3,8 +3,8 @@
 use std::hint::black_box;
 
 use embed::proved;
-use model::numbers::{ROOM, STORE};
-use model::{status, Drive};
+use model::numbers::STORE;
+use model::{session_room, status, Drive};
 
 use crate::clock;
 
@@ -40,7 +40,8 @@ struct Lane {
 
 impl Lane {
     fn new(course: &Course) -> Lane {
-        Lane { marks: vec![0; STORE], out: vec![0; course.lines * ROOM], best: f64::INFINITY }
+        let out = vec![0; session_room(&course.text)];
+        Lane { marks: vec![0; STORE], out, best: f64::INFINITY }
     }
 
     /// Times a run from the course's start; the first round only warms.

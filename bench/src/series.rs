@@ -1,7 +1,10 @@
 //! One kind of frame again and again, with one thing growing.
 
+use model::kmip;
 use model::lines::*;
-use model::numbers::{KEY_UID, POOL, ROOM, STORE, TAGS};
+use model::messages::{edited, with_byte, UNKNOWN};
+use model::numbers::{KEY, KEY_UID, POOL, ROOM, STORE, TAGS};
+use model::ttlv::Node;
 use model::{status, Drive};
 
 use crate::race::Course;
@@ -28,12 +31,34 @@ pub fn loads_of_mixed_lengths(others: usize) -> Course {
 }
 
 fn load_and_clear(others: usize, uid: impl Fn(usize) -> String) -> Course {
+    let line = load(1, 0, &uid(0), 0xEE);
+    line_and_clear(others, uid, line)
+}
+
+fn line_and_clear(others: usize, uid: impl Fn(usize) -> String, line: String) -> Course {
     let loaded = (1..=others).map(|slot| {
         let (namespace, tag) = (1 + slot / TAGS, slot % TAGS);
         load(namespace as u8, tag as u16, &uid(slot), slot as u8)
     });
-    let turns = [load(1, 0, &uid(0), 0xEE), clear_one(1, 0)];
-    course(whole_pool().chain(loaded), &turns)
+    course(whole_pool().chain(loaded), &[line, clear_one(1, 0)])
+}
+
+/// A load by message and its clear in turn, with so many other slots loaded and so many items more
+/// than a message needs.
+pub fn messages(others: usize, more_items: usize) -> Course {
+    let more = vec![Node::structure(UNKNOWN, []); more_items];
+    let message = edited(&message(), 1, |members, _| members.extend(more)).expect("a message");
+    line_and_clear(others, |slot| hex(&[0x5A, slot as u8]), message_frame(1, 0, &message))
+}
+
+/// One refused message again and again: another value in one of its bytes.
+pub fn refused_messages(at: usize) -> Course {
+    let message = with_byte(&message(), at, 0x7F);
+    course(whole_pool(), &[message_frame(1, 0, &message)])
+}
+
+fn message() -> Vec<u8> {
+    kmip::message(1, 0, &[0x5A, 0], &[0xEE; KEY])
 }
 
 /// Every tag of the pool given to the first namespaces.

@@ -2,10 +2,13 @@
 //! difference, else the comparison is blind.
 
 use model::discovery::read;
+use model::messages::padding;
 use model::numbers::{MARK, NAMESPACES, ROOM, SLOT};
-use model::status;
+use model::{kmip, status};
 
 use crate::arena::{Arena, Lengths, Lent};
+use crate::hostile::{from_digits, to_digits};
+use crate::messages::FRAME_HEAD;
 use crate::oracle::{Function, Outcome};
 use crate::places::PLACES;
 use crate::responses::*;
@@ -31,7 +34,18 @@ pub enum Rule {
     Fields,
     Behind,
     Data,
+    /// The writer's minor version is 1.
+    Message,
+    /// The writer asks for no more room than the message takes.
+    MessageRoom,
+    /// Where a message is for another tag than its frame, its own counts.
+    MessageTag,
+    /// Padding is not looked at.
+    Padding,
 }
+
+/// Where a message has the last byte of its minor version.
+const MINOR_AT: usize = 51;
 
 impl Rule {
     pub fn named(name: &str) -> Option<Rule> {
@@ -51,6 +65,10 @@ impl Rule {
             "fields" => Rule::Fields,
             "behind" => Rule::Behind,
             "data" => Rule::Data,
+            "message" => Rule::Message,
+            "message-room" => Rule::MessageRoom,
+            "message-tag" => Rule::MessageTag,
+            "padding" => Rule::Padding,
             _ => return None,
         })
     }
@@ -81,6 +99,12 @@ impl Rule {
             Rule::FirstEight if met(status::WRONG_KEY) => {
                 outcome.number = first_eight(arena.lend(lengths));
             }
+            Rule::MessageTag if met(status::MESSAGE) => {
+                outcome.number = other_frame(arena.lend(lengths), take_tag_of_message);
+            }
+            Rule::Padding if met(status::MESSAGE) => {
+                outcome.number = other_frame(arena.lend(lengths), zero_padding);
+            }
             _ => {}
         }
     }
@@ -109,6 +133,21 @@ impl Rule {
             _ => {}
         }
     }
+
+    /// Makes the model's message that of a writer with the wrong rule.
+    pub fn spoil_message(self, message: &mut [u8]) {
+        if let Rule::Message = self {
+            message[MINOR_AT] = 1;
+        }
+    }
+
+    /// What the writer with the rule asks room for.
+    pub fn message_room(self, room: usize, message: usize) -> usize {
+        match self {
+            Rule::MessageRoom => message,
+            _ => room,
+        }
+    }
 }
 
 /// The answer to a line when slots and marks have no more than eight bytes of each KeyUID.
@@ -121,6 +160,32 @@ fn first_eight(lent: Lent) -> u16 {
     }
     let cut = Lent { image: &mut image, marks: &mut marks, text: lent.text, out: &mut out };
     Function::Line.by_model(cut).number
+}
+
+/// The answer to a frame of kind 0D that is read as another. The drive stays as it is.
+fn other_frame(lent: Lent, misread: fn(&mut [u8])) -> u16 {
+    let mut frame = from_digits(lent.text).expect("a frame");
+    misread(&mut frame);
+    let mut line = Vec::new();
+    to_digits(&frame, &mut line);
+    let [mut image, mut marks, mut out] =
+        [&*lent.image, &*lent.marks, &*lent.out].map(<[u8]>::to_vec);
+    let other = Lent { image: &mut image, marks: &mut marks, text: &mut line, out: &mut out };
+    Function::Line.by_model(other).number
+}
+
+/// A tag of a byte is enough to be noticed.
+fn take_tag_of_message(frame: &mut [u8]) {
+    let (head, message) = frame.split_at_mut(FRAME_HEAD);
+    let own = (0..=255).find(|&tag| kmip::load(message, head[1], tag).is_ok());
+    if let Some(tag) = own {
+        head[2..].copy_from_slice(&tag.to_le_bytes());
+    }
+}
+
+fn zero_padding(frame: &mut [u8]) {
+    let message = &mut frame[FRAME_HEAD..];
+    padding(message).into_iter().for_each(|at| message[at] = 0);
 }
 
 fn pad(feature: &mut Vec<u8>) {

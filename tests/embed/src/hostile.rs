@@ -1,8 +1,11 @@
 //! What a broken or ill-meaning host sends, and states that no drive reached.
 
 use embed::Rng;
-use model::numbers::{BLOCKS, FRAME, HEAD, IMAGE, MARK, NAMESPACES, POOL, SLOT, TAGS};
+use model::messages::*;
+use model::numbers::{BLOCKS, FRAME, HEAD, IMAGE, MARK, NAMESPACES, POOL, REPLACE, SLOT, TAGS};
+use model::ttlv::Node;
 
+use crate::messages::others;
 use crate::universe::{key, key_uid};
 
 const DIGITS: &[u8] = b"0123456789ABCDEF";
@@ -42,10 +45,11 @@ pub fn damage_line(rng: &mut Rng, line: &mut Vec<u8>) {
     }
 }
 
-/// To about the longest that a line may be, or far beyond.
+/// To about the longest that a line may be, with a message or without, or far beyond.
 fn lengthen(rng: &mut Rng, line: &mut Vec<u8>) {
     let length = match rng.below(4) {
         0 => line.len() + rng.below(LONGEST - line.len()),
+        1 => 2 * REPLACE - 3 + rng.below(6),
         _ => 2 * FRAME - 3 + rng.below(6),
     };
     while line.len() < length {
@@ -65,9 +69,47 @@ fn other_key_uid_length(rng: &mut Rng, line: &mut [u8]) {
 fn random_digits(rng: &mut Rng, line: &mut Vec<u8>) {
     line.clear();
     line.extend_from_slice(b"0");
-    for _ in 0..rng.below(2 * FRAME) {
+    let most = rng.pick(&[2 * REPLACE, 2 * FRAME]);
+    for _ in 0..rng.below(most) {
         line.push(rng.pick(DIGITS));
     }
+}
+
+/// In its bytes, or in an item if they are still sound: then the lengths follow.
+pub fn damage_message(rng: &mut Rng, message: &mut Vec<u8>) {
+    let at = rng.below(message.len().max(1));
+    let item = rng.below(items(message).max(1));
+    let changed = match rng.below(9) {
+        0 => padding(message).pop().map(|at| with_byte(message, at, rng.byte())),
+        1 => message.get(at).map(|byte| with_byte(message, at, byte ^ 1 << rng.below(8))),
+        2 => Some(message[..at.min(message.len())].to_vec()),
+        3 => {
+            let behind = vec![rng.pick(&[0, 0x42]); 1 + rng.below(16)];
+            Some([&message[..], &behind].concat())
+        }
+        4 | 5 => edited(message, item, |siblings, at| siblings.insert(at, unknown(rng))),
+        6 => edited(message, item, |siblings, at| {
+            let others = others(&siblings[at].content);
+            siblings[at].content = others[rng.below(others.len())].clone();
+        }),
+        _ => changed(message, item, rng.pick(&CHANGES)),
+    };
+    if let Some(changed) = changed {
+        *message = changed;
+    }
+}
+
+/// An item that nothing asks for, or one whose tag is another's.
+fn unknown(rng: &mut Rng) -> Node {
+    let tag = rng.pick(&[UNKNOWN, [0x42, 0x00, 0x08], [0x42, 0x00, 0x0B], [0x42, 0x00, 0x94]]);
+    let length = rng.below(48);
+    let item = match rng.below(4) {
+        0 => Node::integer(tag, rng.word() as i32),
+        1 => Node::text(tag, &vec![rng.byte(); length]),
+        2 => Node::bytes(tag, &vec![rng.byte(); length]),
+        _ => Node::structure(tag, []),
+    };
+    nested(rng.below(8), item)
 }
 
 /// A sound image and any marks, mostly of the universe's KeyUIDs.

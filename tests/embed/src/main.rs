@@ -11,9 +11,13 @@ mod arena;
 mod broken;
 mod host;
 mod hostile;
+mod imports;
+mod messages;
+mod office;
 mod oracle;
 mod pair;
 mod places;
+mod profile;
 mod reader;
 mod reads;
 mod responses;
@@ -21,9 +25,12 @@ mod sweeps;
 mod tally;
 mod universe;
 mod walk;
+mod writer;
+mod writes;
 
 use broken::Rule;
 use embed::Rng;
+use office::Office;
 use pair::Difference;
 use reads::Reads;
 use sweeps::Sweeps;
@@ -32,13 +39,15 @@ use walk::{LineWalk, TextWalk};
 
 const USAGE: &str = "usage: embed CALLS SEED [--broken RULE]
 RULE: number, written, lines, image, marks, text, output, guard, room, first-eight, first, short,
-fields, behind, data";
+fields, behind, data, message, message-room, message-tag, padding";
 
 /// With fewer calls a number that is not met says nothing.
 const ENOUGH: u64 = 200_000;
-/// Of so many turns one goes to a text and so many to reads; the others to a line each.
+/// Of so many turns one goes to a text, so many to reads, one more to a write; the others to a line
+/// each.
 const TURNS: usize = 32;
 const READS: usize = 8;
+const WRITE: usize = READS + 1;
 
 struct Asked {
     calls: u64,
@@ -86,20 +95,24 @@ fn run(asked: &Asked, tally: &mut Tally) -> Result<(), Difference> {
     let mut sweeps = Sweeps::new(rng.word(), asked.broken);
     let mut by_line = LineWalk::new(rng.word(), asked.broken);
     let mut by_text = TextWalk::new(rng.word(), asked.broken);
-    // The reads first: they take less time.
-    let mut done = reads.run().and_then(|()| sweeps.run());
-    let before = reads.reader.tally.calls;
+    let mut office = Office::new(rng.word(), asked.broken);
+    // What takes less time first.
+    let mut done = reads.run().and_then(|()| office.writes());
+    done = done.and_then(|()| sweeps.run()).and_then(|()| office.imports());
+    let before = reads.reader.tally.calls + office.calls();
     let mut calls = 0;
     while done.is_ok() && calls < asked.calls {
         done = match rng.below(TURNS) {
             0 => by_text.step(),
             1..=READS => reads.step(),
+            WRITE => office.write_step(),
             _ => by_line.step(),
         };
-        let read = reads.reader.tally.calls - before;
-        calls = by_line.pair.tally.calls + by_text.pair.tally.calls + read;
+        let others = reads.reader.tally.calls + office.calls() - before;
+        calls = by_line.pair.tally.calls + by_text.pair.tally.calls + others;
     }
     sweeps.add_to(tally);
+    office.add_to(tally);
     tally.add(&by_line.pair.tally);
     tally.add(&by_text.pair.tally);
     tally.add(&reads.reader.tally);

@@ -37,6 +37,18 @@ extern "C" {
         fields: *mut u32,
         fields_len: usize,
     ) -> u16;
+
+    fn tuffaleen_message(
+        ns: u8,
+        tag: u16,
+        key_uid: *const u8,
+        key_uid_len: usize,
+        key: *const u8,
+        key_len: usize,
+        out: *mut u8,
+        out_len: usize,
+        written: *mut usize,
+    ) -> u16;
 }
 
 /// The number.
@@ -95,4 +107,24 @@ pub fn session(
 pub fn discovery(data: &[u8], fields: &mut [u32]) -> u16 {
     // SAFETY: the slices are valid for their lengths and do not overlap.
     unsafe { tuffaleen_discovery(data.as_ptr(), data.len(), fields.as_mut_ptr(), fields.len()) }
+}
+
+/// The number and the bytes written.
+pub fn message(ns: u8, tag: u16, key_uid: &[u8], key: &[u8], out: &mut [u8]) -> (u16, usize) {
+    let mut written = UNSET;
+    // SAFETY: the slices are valid for their lengths and do not overlap.
+    let number = unsafe {
+        tuffaleen_message(
+            ns,
+            tag,
+            key_uid.as_ptr(),
+            key_uid.len(),
+            key.as_ptr(),
+            key.len(),
+            out.as_mut_ptr(),
+            out.len(),
+            &mut written,
+        )
+    };
+    (number, written)
 }

@@ -1,10 +1,10 @@
 //! What can be gone through from end to end: every length near a right one, every output length,
 //! every value of the bytes that an image begins with, every byte of an image, every value of every
-//! byte of a mark, and every value of every byte of a frame.
+//! byte of a mark, every value of every byte of a frame, and frames of every length.
 
 use embed::Rng;
 use model::lines::*;
-use model::numbers::{BLOCKS, DISCOVERY_ROOM, IMAGE, MARK, NAMESPACES, ROOM, STORE};
+use model::numbers::{BLOCKS, DISCOVERY_ROOM, FRAME, IMAGE, MARK, NAMESPACES, ROOM, STORE};
 use model::{room, session_room, status, Drive};
 
 use crate::arena::Lengths;
@@ -47,7 +47,7 @@ type Done = Result<(), Difference>;
 
 impl Sweeps {
     pub fn new(seed: u64, broken: Option<Rule>) -> Sweeps {
-        let rooms = Lengths::right(8 * NEAR, 16 * NEAR);
+        let rooms = Lengths::right(2 * FRAME + NEAR, 16 * NEAR);
         let twice = Lengths { image: 2 * IMAGE, marks: 2 * STORE, ..rooms };
         let [pair, wide] = [rooms, twice].map(|rooms| Pair::new(rooms, broken));
         Sweeps { pair, wide, rng: Rng::new(seed), used: used() }
@@ -66,7 +66,8 @@ impl Sweeps {
         self.first_bytes()?;
         self.marks()?;
         self.frames()?;
-        self.digits()
+        self.digits()?;
+        self.lines_of_every_length()
     }
 
     /// A slot has an odd length, so of two neighbours each byte is changed in both ways.
@@ -116,7 +117,7 @@ impl Sweeps {
     }
 
     fn outputs(&mut self) -> Done {
-        for line in ["09", "0B00", "", "010102", "0G", "0C", "0c", "0C00", "0D"] {
+        for line in ["09", "0B00", "", "010102", "0G", "0C", "0c", "0C00", "0D", "0E"] {
             for out in 0..DISCOVERY_ROOM + 2 * NEAR {
                 self.pair.restore(&self.used);
                 say(&mut self.pair, line, out)?;
@@ -178,6 +179,19 @@ impl Sweeps {
         Ok(())
     }
 
+    /// Frames of each kind, and of the kinds around, of every length up to past the longest line.
+    fn lines_of_every_length(&mut self) -> Done {
+        for kind in (0x00..=0x0E).chain([0xFF]) {
+            let line = hex(&[kind]) + &"01".repeat(FRAME + 2);
+            for length in 0..=line.len() {
+                let out = room(&line.as_bytes()[..length]);
+                self.pair.restore(&self.used);
+                say(&mut self.pair, &line[..length], out)?;
+            }
+        }
+        Ok(())
+    }
+
     /// Every value of every digit of some lines.
     fn digits(&mut self) -> Done {
         for line in ["010304", "05010000", "09", "0B01", "0C"] {
@@ -233,7 +247,7 @@ fn used() -> State {
 }
 
 /// One of each kind, accepted by the used drive but for the boot write.
-fn frames() -> [String; 12] {
+fn frames() -> [String; 13] {
     [
         manage(3, 125),
         release(1),
@@ -247,5 +261,6 @@ fn frames() -> [String; 12] {
         boot_write(0),
         power_cycle(),
         discovery(),
+        message_load(4, 126, "AA", 0x33),
     ]
 }

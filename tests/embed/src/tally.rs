@@ -1,20 +1,22 @@
 //! How often each number of the paper was met, by what gave it, and what a run must meet besides.
 
-use model::numbers::{DISCOVERY_ROOM, ROOM};
+use model::numbers::{DISCOVERY_ROOM, FRAME, ROOM};
 use model::status::*;
 
 use crate::oracle::Function;
 
-const COLUMNS: [&str; 5] = ["start", "line", "session", "in sessions", "discovery"];
+const COLUMNS: [&str; 6] = ["start", "line", "session", "in sessions", "discovery", "message"];
 const IN_SESSIONS: usize = 3;
 /// The function of a host.
 const READ: usize = 4;
+/// The function of a key office.
+const WRITE: usize = 5;
 
 /// Every number of the paper is below this.
 const LIMIT: usize = 0x0800;
 
 /// What a line can be answered with; then what refuses a call.
-const OF_LINES: [u16; 21] = [
+const OF_LINES: [u16; 23] = [
     DONE,
     OPCODE,
     FIELD,
@@ -36,11 +38,17 @@ const OF_LINES: [u16; 21] = [
     EMPTY,
     OLD_KEY_UID,
     OTHER_KEY,
+    MESSAGE,
+    MESSAGE_KEY_UID,
 ];
 const OF_CALLS: [u16; 3] = [STORE, UNSOUND, OUTPUT];
 const OF_READS: [u16; 3] = [DONE, OUTPUT, DISCOVERY];
+const OF_WRITES: [u16; 4] = [DONE, OUTPUT, MESSAGE, MESSAGE_KEY_UID];
 
-/// Of lines of kind 0C and of reads.
+/// The answer to an accepted load.
+const TAKEN: &[u8] = b"0000\n";
+
+/// Of lines of the kinds 0C and 0D, of reads and of writes.
 #[derive(Clone, Copy)]
 pub enum Event {
     /// The output was long enough for any other line.
@@ -51,9 +59,15 @@ pub enum Event {
     AnsweredInSession,
     NoTper,
     NoKeyPerIo,
+    MessageTaken,
+    MessageTakenInSession,
+    /// Read as a frame, and refused for its message.
+    LongestLine,
+    ShortMessage,
+    LongMessage,
 }
 
-const EVENTS: [&str; 7] = [
+const EVENTS: [&str; 12] = [
     "line 0C, 13 to 228 bytes of output",
     "line of kind 0C, answer of 5 bytes",
     "line 0C, answer of 229 bytes",
@@ -61,6 +75,11 @@ const EVENTS: [&str; 7] = [
     "line 0C in a session, answer of 229 bytes",
     "discovery, TPer absent",
     "discovery, Key Per I/O absent",
+    "line of kind 0D, accepted",
+    "line of kind 0D in a session, accepted",
+    "line of kind 0D and 1,024 digits, 0717",
+    "message, 400 bytes written",
+    "message, 408 bytes written",
 ];
 
 pub struct Tally {
@@ -84,6 +103,16 @@ impl Tally {
         self.counts[usize::from(number)][READ] += 1;
     }
 
+    pub fn write(&mut self, number: u16, written: usize) {
+        self.calls += 1;
+        self.counts[usize::from(number)][WRITE] += 1;
+        match written {
+            400 => self.event(Event::ShortMessage),
+            408 => self.event(Event::LongMessage),
+            _ => {}
+        }
+    }
+
     pub fn event(&mut self, event: Event) {
         self.events[event as usize] += 1;
     }
@@ -96,6 +125,8 @@ impl Tally {
             }
             DISCOVERY_ROOM => self.event(Event::LineAnswered),
             5 if line.starts_with(b"0C") => self.event(Event::LineRefused),
+            5 if line.starts_with(b"0D") && answer == TAKEN => self.event(Event::MessageTaken),
+            5 if line.len() == 2 * FRAME && answer == b"0717\n" => self.event(Event::LongestLine),
             _ => {}
         }
     }
@@ -110,6 +141,9 @@ impl Tally {
             match answer.len() {
                 DISCOVERY_ROOM => self.event(Event::AnsweredInSession),
                 5 if line.starts_with(b"0C") => self.event(Event::RefusedInSession),
+                5 if line.starts_with(b"0D") && answer == TAKEN => {
+                    self.event(Event::MessageTakenInSession);
+                }
                 _ => {}
             }
         }
@@ -125,8 +159,10 @@ impl Tally {
 
     pub fn print(&self) {
         println!("number{}", COLUMNS.map(|column| format!("{column:>14}")).concat());
-        for number in OF_LINES.iter().chain(&OF_CALLS).chain(&[DISCOVERY]) {
-            let counts = self.counts[usize::from(*number)];
+        let mut numbers = [&OF_LINES[..], &OF_CALLS, &[DISCOVERY]].concat();
+        numbers.sort();
+        for number in numbers {
+            let counts = self.counts[usize::from(number)];
             println!("{number:04X}  {}", counts.map(|count| format!("{count:>14}")).concat());
         }
         for (event, count) in EVENTS.iter().zip(self.events) {
@@ -143,7 +179,9 @@ impl Tally {
             OF_CALLS.iter().chain(&[DONE]).map(|&number| (number, Function::Session as usize));
         let inside = OF_LINES.iter().map(|&number| (number, IN_SESSIONS));
         let read = OF_READS.map(|number| (number, READ));
-        let wanted = start.into_iter().chain(line).chain(session).chain(inside).chain(read);
+        let write = OF_WRITES.map(|number| (number, WRITE));
+        let of_drive = start.into_iter().chain(line).chain(session).chain(inside);
+        let wanted = of_drive.chain(read).chain(write);
         let numbers = wanted
             .filter(|&(number, column)| self.counts[usize::from(number)][column] == 0)
             .map(|(number, column)| format!("{number:04X} ({})", COLUMNS[column]));

@@ -1,7 +1,10 @@
 //! Frames over few namespaces, tags, KeyUIDs and keys, so that they meet each other often.
 
 use embed::Rng;
-use model::numbers::{COMMAND, FRAME, KEY, KEY_UID, NAMESPACES, POOL, SLOT, TAGS};
+use model::kmip;
+use model::numbers::{COMMAND, FRAME, KEY, KEY_UID, NAMESPACES, POOL, REPLACE, SLOT, TAGS};
+
+use crate::hostile::damage_message;
 
 /// Lengths and first bytes are shared in every way that a cut or a pad could confuse.
 const KEY_UIDS: [&[u8]; 19] = [
@@ -29,19 +32,20 @@ const KEY_UIDS: [&[u8]; 19] = [
 const COUNTS: [u8; 16] = [1, 2, 2, 3, 4, 8, 32, 63, 64, 126, 127, 128, 128, 0, 129, 255];
 
 /// How often each kind comes, in turns of 256.
-const KINDS: [(u8, u8); 12] = [
+const KINDS: [(u8, u8); 13] = [
     (0x01, 14),
     (0x02, 2),
-    (0x03, 61),
+    (0x03, 45),
     (0x04, 36),
     (0x05, 16),
     (0x06, 2),
-    (0x07, 84),
+    (0x07, 76),
     (0x08, 16),
     (0x09, 6),
     (0x0A, 10),
     (0x0B, 3),
     (0x0C, 6),
+    (0x0D, 24),
 ];
 
 /// Writes a frame's bytes, likely for a drive with this image.
@@ -60,7 +64,11 @@ pub fn frame(rng: &mut Rng, image: &[u8], frame: &mut Vec<u8>) {
         0x0A => frame.push(rng.pick(&[0, 0, 1, 1, 2, 3, 255])),
         0x0B => frame.push(rng.pick(&[0, 0, 0, 0, 1, 2, 2, 255])),
         // Longer than it may be.
-        0x0C if rng.once_in(4) => frame.resize(2 + rng.below(FRAME - 1), rng.byte()),
+        0x0C if rng.once_in(4) => {
+            let most = rng.pick(&[REPLACE, FRAME]);
+            frame.resize(2 + rng.below(most - 1), rng.byte());
+        }
+        0x0D => load_by_message(rng, image, frame),
         _ => {}
     }
 }
@@ -152,6 +160,38 @@ fn load(rng: &mut Rng, image: &[u8], frame: &mut Vec<u8>) {
     let new = key_uid(rng);
     led_by_length(frame, new);
     frame.extend(key(rng, new));
+}
+
+/// Half of the messages are those of a load to this place; the others are nearly that.
+fn load_by_message(rng: &mut Rng, image: &[u8], frame: &mut Vec<u8>) {
+    let place = place(rng, image, false);
+    put_place(frame, place);
+    let new = key_uid(rng);
+    let (mut uid, mut key) = (new.to_vec(), key(rng, new).to_vec());
+    if rng.once_in(16) {
+        uid.resize(rng.pick(&[0, 0, 17, 17, 18, 24, 25]), rng.byte());
+    }
+    if rng.once_in(32) {
+        key.resize(rng.pick(&[0, 1, 24, 31, 33, 40, 64]), rng.byte());
+    }
+    let (namespace, tag) = if rng.once_in(16) { near(rng, place) } else { place };
+    let mut message = kmip::message(namespace, tag, &uid, &key);
+    for _ in 0..rng.pick(&[0, 0, 0, 0, 0, 1, 2, 3]) {
+        damage_message(rng, &mut message);
+    }
+    frame.extend(message);
+    // A line is read no further than that.
+    frame.truncate(FRAME + 1);
+}
+
+/// Another place, which is likely to be taken for this.
+fn near(rng: &mut Rng, (namespace, tag): (u8, u16)) -> (u8, u16) {
+    match rng.below(4) {
+        0 => (namespace.wrapping_add(1), tag),
+        1 => (namespace, tag.wrapping_add(1)),
+        2 => (namespace, tag ^ 0x0100),
+        _ => (rng.byte(), rng.word() as u16),
+    }
 }
 
 fn replace(rng: &mut Rng, image: &[u8], frame: &mut Vec<u8>) {
