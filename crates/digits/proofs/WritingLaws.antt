@@ -1,9 +1,10 @@
 -- Bytes as digits, written one byte after the other, and the line of an answer
 -- that has these bytes.
 -- Assumes nothing.
-use mathlib.Core.Path.{_≡_, refl, ap, _∙_}
+use mathlib.Core.Path.{_≡_, refl, sym, ap, _∙_}
 use mathlib.Core.Bool.{Bool, true, false, cond}
 use mathlib.Core.List.{List, [], _∷_, _++_, append-assoc}
+use mathlib.Core.Option.{Option, none, some}
 use Prim.Native.Nat.{ℕ, _+_, _*_, _/_, _%_, _≤_, _<_}
 use native.Mathlib.Omega.{arith}
 use native.Mathlib.Numerals.{add-one}
@@ -14,13 +15,18 @@ use borrow.Author.Tests.{le-leb, lt-leb}
 use Rattle.cells.proofs.CellsLaws.{grow}
 use Rattle.cells.specs.Cells.{zeros}
 use Rattle.rules.specs.declared.Answer.{Answer}
-use Rattle.rules.specs.declared.Answer.the-variants.{Discovery}
+use Rattle.rules.specs.declared.Answer.the-variants.{Discovery, Refused}
+use Rattle.rules.specs.declared.Refusal.{Refusal}
+use Rattle.rules.specs.declared.BadLine.{BadLine}
+use Rattle.rules.specs.declared.BadLine.the-variants.{Empty, TooLong, BadDigit, Odd}
 use Rattle.rules.specs.declared.DiscoveryFields.{DiscoveryFields}
 use Rattle.rules.specs.Numbers.{discoverySize}
 use Rattle.rules.specs.Discovery.{headerBytes, tperBytes, keyPerIoBytes, response, ownHeader, ownTper, ownKeyPerIo, ownFields}
 use Rattle.rules.specs.Discovering.{respond}
-use Rattle.rules.specs.Answers.{answerBytes, answerLine, digitOf, digitsOf, lineFeed}
+use Rattle.rules.specs.Answers.{refusalNumber, reason, faultOf, faultData, answerBytes, answerLine, digitOf, digitsOf, lineFeed}
+use Rattle.digits.specs.declared.Fault.{Fault}
 use Rattle.digits.specs.Digits.{Wrote, wrote}
+use Rattle.digits.specs.Decoding.{tells}
 
 length-digits : (bs : List ℕ) → length (digitsOf bs) ≡ length bs * 2
 unfolding digitsOf
@@ -92,3 +98,30 @@ discovery-bytes f x is e = rw (e, is)
 pub discovery-length : length (answerBytes Discovery) ≡ 2 + discoverySize
 unfolding response headerBytes tperBytes keyPerIoBytes ownFields ownHeader zeros
 discovery-length = refl
+
+-- ------------------------------------------------------------------------
+-- A refusal's bytes, with what it tells of a line or without
+
+some-reason : (why : BadLine) → reason why ≡ 0 → ⊥
+some-reason Empty e = omega arith
+some-reason TooLong e = omega arith
+some-reason (BadDigit place) e = omega arith
+some-reason Odd e = omega arith
+
+quiet-data : (o : Option BadLine) → tells o .reason ≡ 0 → faultData o ≡ []
+quiet-data none e = refl
+quiet-data (some why) e = absurd (some-reason why e)
+
+loud-data : (o : Option BadLine) → (tells o .reason ≡ 0 → ⊥)
+    → faultData o ≡ tells o .reason ∷ tells o .place % 256 ∷ tells o .place / 256 % 256 ∷ []
+loud-data none e = absurd (e refl)
+loud-data (some why) e = refl
+
+module _ (r : Refusal) {n : ℕ} {t : Fault} (number : n ≡ refusalNumber r) (told : t ≡ tells (faultOf r)) where
+  pub quiet-bytes : t .reason ≡ 0 → answerBytes (Refused r) ≡ n / 256 ∷ n % 256 ∷ []
+  quiet-bytes e = rw (number, quiet-data (faultOf r) (sym (ap (λ (f : Fault). f .reason) told) ∙ e))
+
+  pub loud-bytes : (t .reason ≡ 0 → ⊥)
+      → answerBytes (Refused r) ≡ n / 256 ∷ n % 256 ∷ t .reason ∷ t .place % 256 ∷ t .place / 256 % 256 ∷ []
+  loud-bytes e =
+      rw (number, told, loud-data (faultOf r) (λ z. e (ap (λ (f : Fault). f .reason) told ∙ z)))

@@ -3,10 +3,14 @@
 use mathlib.Core.Path.{_≡_}
 use mathlib.Core.Bool.{Bool, true, false}
 use mathlib.Core.List.{List, _++_}
+use mathlib.Core.Option.{Option, none, some}
 use Prim.Native.Nat.{ℕ, _/_, _≤_, _<_}
 use lib.ListN.{length, take, drop}
 use lib.Dec.{eqb}
+use Rattle.rules.specs.declared.BadLine.{BadLine}
+use Rattle.rules.specs.Answers.{reason, placeIn}
 use Rattle.rules.specs.FrameLine.{isDigit, valueOf, firstBad, decoded}
+use Rattle.digits.specs.declared.Fault.{Fault}
 
 -- v is the value of the digit d; above 15 where d is no digit
 pub record Valued (d v : ℕ) : Type 0 where
@@ -20,3 +24,8 @@ allDigits line = eqb (firstBad line) (length line)
 -- the frame of `readInto`, for a line of a good length
 unfoldable pub framed : List ℕ → List ℕ → List ℕ
 framed line frame = decoded (take (firstBad line) line) ++ drop (firstBad line / 2) frame
+
+-- what a fault has to tell, as numbers: reason 0 for none
+abbrev pub tells : Option BadLine → Fault
+tells none = record { reason = 0; place = 0 }
+tells (some why) = record { reason = reason why; place = placeIn why }

@@ -2,13 +2,15 @@
 ghost use mathlib.Core.Path.{_≡_};
 ghost use mathlib.Core.Bool.{true};
 ghost use mathlib.Core.List.{_++_};
+ghost use mathlib.Core.Option.{some};
 ghost use Prim.Native.Nat.{_*_, _/_, _<_, _≤_};
 ghost use lib.ListN.{length, drop};
-ghost use Rattle.rules.specs.Answers.{refusalNumber, number as numberOf, answerBytes, digitOf, digitsOf};
+ghost use Rattle.rules.specs.Answers.{refusalNumber, faultOf, number as numberOf, answerBytes, digitOf, digitsOf};
 ghost use Rattle.rules.specs.FrameLine.{firstBad};
 ghost use Rattle.digits.specs.Digits.{readInto, wrote};
-ghost use Rattle.digits.specs.Decoding.{Valued, allDigits, framed};
+ghost use Rattle.digits.specs.Decoding.{Valued, allDigits, framed, tells};
 use rules::Answer;
+use rules::BadLine;
 use rules::DIGITS_MOST;
 use rules::DISCOVERY_SIZE;
 use rules::FRAME_MOST;
@@ -101,17 +103,17 @@ pub fn read_line(line: &[u8], frame: &mut [u8; FRAME_MOST]) -> LineRead
 {
     let n = line.len();
     if n == 0 {
-        return LineRead::Empty;
+        return LineRead::Bad(BadLine::Empty);
     }
     if n > DIGITS_MOST {
-        return LineRead::TooLong;
+        return LineRead::Bad(BadLine::TooLong);
     }
     if !all_digits(line) {
-        return LineRead::BadDigit(decode(line, frame));
+        return LineRead::Bad(BadLine::BadDigit(decode(line, frame)));
     }
     decode_all(line, frame);
     if n % 2 == 1 {
-        return LineRead::Odd;
+        return LineRead::Bad(BadLine::Odd);
     }
     LineRead::Bytes(n / 2)
 }
@@ -128,7 +130,7 @@ fn refusal_number(refusal: Refusal) -> u16
         Refusal::BlocksOutOfRange => 0x0080,
         Refusal::LockNotChangeable => 0x010E,
         Refusal::BootWriteProhibited => 0x011E,
-        Refusal::NotAFrameLine => 0x0701,
+        Refusal::NotAFrameLine(_) => 0x0701,
         Refusal::UnknownKind => 0x0702,
         Refusal::WrongLength => 0x0703,
         Refusal::BadKeyUidLength => 0x0704,
@@ -146,6 +148,69 @@ fn refusal_number(refusal: Refusal) -> u16
         Refusal::NotAResponse => 0x0716,
         Refusal::InvalidMessage => 0x0717,
         Refusal::InvalidMessageKeyUid => 0x0718,
+    }
+}
+
+// What a refusal tells of a line: the reason, 0 for those that tell nothing, and the place.
+pub(crate) struct Fault {
+    pub reason: u8,
+    pub place: usize,
+}
+
+fn fault_of(why: BadLine) -> Fault
+    ensures { λ r. ⌜ r ≡ tells (some why) ⌝ }
+{
+    match why {
+        BadLine::Empty => Fault {
+            reason: 1,
+            place: 0,
+        },
+        BadLine::TooLong => Fault {
+            reason: 2,
+            place: 0,
+        },
+        BadLine::BadDigit(place) => Fault { reason: 3, place },
+        BadLine::Odd => Fault {
+            reason: 4,
+            place: 0,
+        },
+    }
+}
+
+fn fault_in(refusal: Refusal) -> Fault
+    ensures { λ r. ⌜ r ≡ tells (faultOf refusal) ⌝ }
+{
+    let nothing = Fault {
+        reason: 0,
+        place: 0,
+    };
+    match refusal {
+        Refusal::InvalidOpcode => nothing,
+        Refusal::InvalidField => nothing,
+        Refusal::InvalidNamespace => nothing,
+        Refusal::InvalidKeyTag => nothing,
+        Refusal::IncorrectKey => nothing,
+        Refusal::BlocksOutOfRange => nothing,
+        Refusal::LockNotChangeable => nothing,
+        Refusal::BootWriteProhibited => nothing,
+        Refusal::NotAFrameLine(why) => fault_of(why),
+        Refusal::UnknownKind => nothing,
+        Refusal::WrongLength => nothing,
+        Refusal::BadKeyUidLength => nothing,
+        Refusal::AlreadyManaged => nothing,
+        Refusal::NotManaged => nothing,
+        Refusal::BadTagCount => nothing,
+        Refusal::PoolTooSmall => nothing,
+        Refusal::SlotOccupied => nothing,
+        Refusal::SlotEmpty => nothing,
+        Refusal::OtherOldKeyUid => nothing,
+        Refusal::OtherKey => nothing,
+        Refusal::WrongStore => nothing,
+        Refusal::UnsoundState => nothing,
+        Refusal::OutputTooShort => nothing,
+        Refusal::NotAResponse => nothing,
+        Refusal::InvalidMessage => nothing,
+        Refusal::InvalidMessageKeyUid => nothing,
     }
 }
 
@@ -213,6 +278,28 @@ fn write_discovery(out: &mut [u8]) -> usize
     write_line(&bytes, out)
 }
 
+// Writes the line of a refusal: its number, and behind it what it tells of a line.
+fn write_refusal(refusal: Refusal, out: &mut [u8]) -> usize
+    ensures { λ r. ⌜ record { bytes = r; out = now (out .exit) } ≡ wrote (Answer.Refused refusal) (now (out .entry)) ⌝ }
+{
+    let n = refusal_number(refusal);
+    let told = fault_in(refusal);
+    let reason = told.reason;
+    let place = told.place;
+    if reason == 0 {
+        let bytes = [(n / 256) as u8, (n % 256) as u8];
+        return write_line(&bytes, out);
+    }
+    let bytes = [
+        (n / 256) as u8,
+        (n % 256) as u8,
+        reason,
+        (place % 256) as u8,
+        (place / 256 % 256) as u8,
+    ];
+    write_line(&bytes, out)
+}
+
 // Writes the answer's line to the front of the output, and says how many bytes it has; 0 where there is no room.
 pub fn write_answer(answer: Answer, out: &mut [u8]) -> usize
     ensures { λ r. ⌜ record { bytes = r; out = now (out .exit) } ≡ wrote answer (now (out .entry)) ⌝ }
@@ -234,10 +321,6 @@ pub fn write_answer(answer: Answer, out: &mut [u8]) -> usize
             write_line(&bytes, out)
         }
         Answer::Discovery => write_discovery(out),
-        Answer::Refused(refusal) => {
-            let n = refusal_number(refusal);
-            let bytes = [(n / 256) as u8, (n % 256) as u8];
-            write_line(&bytes, out)
-        }
+        Answer::Refused(refusal) => write_refusal(refusal, out),
     }
 }

@@ -4,27 +4,29 @@
 use mathlib.Core.Path.{_≡_, refl, sym, ap, _∙_}
 use mathlib.Core.Bool.{Bool, true, false, true≢false}
 use mathlib.Core.List.{List, [], _∷_, _++_}
-use Prim.Native.Nat.{ℕ, _/_, _%_, _≤_}
+use Prim.Native.Nat.{ℕ, _/_, _%_, _≤_, _<_}
 use native.Mathlib.Omega.{arith}
 use lib.ListN.{length, take, drop}
 use lib.Seq.{take-at, take-length}
 use lib.Dec.{eqb, ltb}
 use borrow.Author.Tests.{eqb-true, eqb-false, ltb-false, le-leb, ne-eqb}
-use Rattle.cells.proofs.PredicatesLaws.{false-or-true, true-or-false}
+use Rattle.cells.proofs.PredicatesLaws.{false-or-true}
 use Rattle.rules.specs.declared.LineRead.{LineRead}
-use Rattle.rules.specs.declared.LineRead.the-variants.{Bytes, Empty, TooLong, BadDigit, Odd}
+use Rattle.rules.specs.declared.LineRead.the-variants.{Bytes, Bad}
+use Rattle.rules.specs.declared.BadLine.{BadLine}
+use Rattle.rules.specs.declared.BadLine.the-variants.{Empty, TooLong, BadDigit, Odd}
 use Rattle.rules.specs.Numbers.{digitsMost}
 use Rattle.rules.specs.Answers.{07·01}
-use Rattle.rules.specs.Checks.{Check, _when_, judged, AllPass}
+use Rattle.rules.specs.Checks.{Check, _when_, Verdict, passed, refused, firstRefusal, settle, judged, AllPass}
 use Rattle.rules.specs.FrameLine.{firstBad, decoded, lineChecks, readLine, isBytes, isFrameLine}
 use Rattle.rules.specs.Frames.{readFrame}
-use Rattle.rules.proofs.ChecksLaws.{judged-pass}
+use Rattle.rules.specs.Order.{frameOf, readingChecks}
+use Rattle.rules.proofs.ChecksLaws.{judged-pass, judged-refusing}
 use Rattle.digits.specs.Decoding.{allDigits}
 use Rattle.digits.specs.Digits.{ReadInto, readInto}
 use Rattle.digits.proofs.ReadingLaws.{some-bad, length-decoded}
-use Rattle.frames.specs.declared.FrameRead.{FrameRead}
 use Rattle.frames.specs.declared.FrameRead.the-variants.{Refused}
-use Rattle.frames.specs.Reading.{numbered, ReadFrom, readAs, readFrom, bytesRead}
+use Rattle.frames.specs.Reading.{numbersOf, placed, numbered, ReadFrom, readAs, readFrom}
 
 -- ------------------------------------------------------------------------
 -- A frame line: all of it is digits, and its bytes go to the front
@@ -34,11 +36,12 @@ record Whole (line : List ℕ) : Type 0 where
   pub short : length line ≤ digitsMost
   pub digits : firstBad line ≡ length line
   pub read : readLine line ≡ Bytes (length line / 2)
+  pub passes : AllPass (lineChecks line)
 
-abbrev tests : Bool → Bool → Bool → Bool → ℕ → List (Check LineRead)
+abbrev tests : Bool → Bool → Bool → Bool → ℕ → List (Check BadLine)
 tests none long bad odd at = Empty when none ∷ TooLong when long ∷ BadDigit at when bad ∷ Odd when odd ∷ []
 
-all-pass : (none long bad odd : Bool) (at n : ℕ) → isBytes (judged (tests none long bad odd at) (λ why. why) (Bytes n)) ≡ true
+all-pass : (none long bad odd : Bool) (at n : ℕ) → isBytes (judged (tests none long bad odd at) Bad (Bytes n)) ≡ true
     → AllPass (tests none long bad odd at)
 all-pass true long bad odd at n e = absurd (true≢false (sym e))
 all-pass false true bad odd at n e = absurd (true≢false (sym e))
@@ -59,7 +62,8 @@ whole-line line e =
       some = omega arith;
       short = ltb-false digitsMost n (p .1 .0);
       digits = eqb-true (firstBad line) n all;
-      read = judged-pass (lineChecks line) (λ why. why) (Bytes (n / 2)) p;
+      read = judged-pass (lineChecks line) Bad (Bytes (n / 2)) p;
+      passes = p;
     }
 
 pub frame-of : (line frame : List ℕ) → isFrameLine line ≡ true → readInto line frame .frame ≡ decoded line ++ drop (length line / 2) frame
@@ -70,48 +74,74 @@ frame-of line frame e =
     rw (ne-eqb (length line) 0 some, le-leb (length line) digitsMost (w .short), w .digits, take-length line)
 
 -- ------------------------------------------------------------------------
--- By the number of bytes read
+-- By what was read
 
-some-bytes : (w : LineRead) → (bytesRead w ≡ 0 → ⊥) → isBytes w ≡ true
-some-bytes (Bytes n) h = refl
-some-bytes Empty h = absurd (h refl)
-some-bytes TooLong h = absurd (h refl)
-some-bytes (BadDigit place) h = absurd (h refl)
-some-bytes Odd h = absurd (h refl)
+-- the checks of the line have passed, and those of its frame decide
+as-frame : (line f : List ℕ) → AllPass (lineChecks line)
+    → readAs (record { checks = readingChecks line; frame = frameOf line }) f ≡ readAs (readFrame (decoded line)) f
+unfolding readAs numbered
+as-frame line f p =
+    let rest = readFrame (decoded line) .checks in
+    let frame = readFrame (decoded line) .frame in
+    let read : judged (readingChecks line) Refused (numbersOf frame) ≡ judged rest Refused (numbersOf frame) =
+    judged-refusing 07·01 (lineChecks line) rest Refused (numbersOf frame) ∙ judged-pass (lineChecks line) _ _ p in
+    let left : judged (readingChecks line) (λ why. f) (placed frame f) ≡ judged rest (λ why. f) (placed frame f) =
+    judged-refusing 07·01 (lineChecks line) rest (λ why. f) (placed frame f) ∙ judged-pass (lineChecks line) _ _ p in
+    rw (read, left)
 
-module _ (line frame last : List ℕ) (r : LineRead) (n : ℕ)
-    (became : record { read = r; frame = last } ≡ readInto line frame)
-    (bytes : n ≡ bytesRead r) where
-  counted : n ≡ bytesRead (readLine line)
+bad-then : (v : Verdict BadLine) (n : ℕ) (why : BadLine) → settle v Bad (Bytes n) ≡ Bad why → v ≡ refused why
+bad-then passed n why e = cc
+bad-then (refused w) n why e = cc
+
+abbrev bytesIn : LineRead → ℕ
+bytesIn (Bytes n) = n
+bytesIn (Bad why) = 0
+
+module _ (line f last : List ℕ) {r : LineRead} (became : record { read = r; frame = last } ≡ readInto line f) where
+  read-is : r ≡ readLine line
   unfolding readInto
-  counted = bytes ∙ ap (λ (x : ReadInto). bytesRead (x .read)) became
+  read-is = ap (λ (x : ReadInto). x .read) became
 
-  left : last ≡ readInto line frame .frame
+  left : last ≡ readInto line f .frame
   left = ap (λ (x : ReadInto). x .frame) became
 
-  half : isFrameLine line ≡ true → n ≡ length line / 2
-  half e = counted ∙ ap bytesRead (whole-line line e .read)
+  -- no frame line
+  pub not-a-line : (why : BadLine) → r ≡ Bad why → record { read = Refused (07·01 why); frame = last } ≡ readFrom line f
+  unfolding readFrom readAs numbered readLine
+  not-a-line why e =
+      let rest = readFrame (decoded line) .checks in
+      let came = readInto line f .frame in
+      let v : firstRefusal (lineChecks line) ≡ refused why =
+      bad-then (firstRefusal (lineChecks line)) (length line / 2) why (sym read-is ∙ e) in
+      let read : judged (readingChecks line) Refused (numbersOf (frameOf line)) ≡ Refused (07·01 why) =
+      judged-refusing 07·01 (lineChecks line) rest Refused (numbersOf (frameOf line))
+      ∙ ap (λ w. settle w (λ a. Refused (07·01 a)) (judged rest Refused (numbersOf (frameOf line)))) v in
+      let stays : judged (readingChecks line) (λ why. came) (placed (frameOf line) came) ≡ came =
+      judged-refusing 07·01 (lineChecks line) rest (λ why. came) (placed (frameOf line) came)
+      ∙ ap (λ w. settle w (λ a. came) (judged rest (λ why. came) (placed (frameOf line) came))) v in
+      rw (read, stays, ← left)
 
-  -- none: no frame line
-  pub refused : n ≡ 0 → record { read = Refused 07·01; frame = last } ≡ readFrom line frame
-  unfolding readFrom readAs numbered
-  refused z =
-      let none : isFrameLine line ≡ false = true-or-false (isFrameLine line) (λ e. omega (arith, half e, whole-line line e .some)) in
-      rw (none, left)
+  module _ (n : ℕ) (e : r ≡ Bytes n) where
+    whole : Whole line
+    whole = whole-line line (ap isBytes (sym read-is ∙ e))
 
-  module _ (h : n ≡ 0 → ⊥) where
-    frame-line : isFrameLine line ≡ true
-    frame-line = some-bytes (readLine line) (λ z. h (counted ∙ z))
+    half : n ≡ length line / 2
+    half = ap bytesIn (sym e ∙ read-is ∙ whole .read)
 
-    pub fits : n ≤ digitsMost / 2
-    fits = omega (arith, half frame-line, whole-line line frame-line .short)
+    pub fits : (0 < n) × (n ≤ digitsMost / 2)
+    fits = (omega (arith, half, whole .some), omega (arith, half, whole .short))
+
+    came : last ≡ decoded line ++ drop (length line / 2) f
+    came = left ∙ frame-of line f (ap isBytes (sym read-is ∙ e))
 
     front : take n last ≡ decoded line
-    front =
-        ap (take n) (left ∙ frame-of line frame frame-line)
-        ∙ take-at (decoded line) _ n (length-decoded line ∙ sym (half frame-line))
+    front = ap (take n) came ∙ take-at (decoded line) _ n (length-decoded line ∙ sym half)
 
-    -- some: what the first n bytes are read as
-    pub read-as : (x : ReadFrom) → x ≡ readAs (readFrame (take n last)) last → x ≡ readFrom line frame
-    unfolding readFrom readAs numbered
-    read-as x e = rw (e, front, frame-line, ← left)
+    -- what the first n bytes are read as
+    pub read-as : (x : ReadFrom) → x ≡ readAs (readFrame (take n last)) last → x ≡ readFrom line f
+    unfolding readFrom
+    read-as x g =
+        g
+        ∙ ap (λ d. readAs (readFrame d) last) front
+        ∙ sym (as-frame line last (whole .passes))
+        ∙ ap (readAs (record { checks = readingChecks line; frame = frameOf line })) left

@@ -23,6 +23,7 @@ use Rattle.rules.specs.Slots.{Contents, FitKey}
 use Rattle.rules.specs.Frames.{Frame, load, readLoad, readReplace, readMessage, unknownKind, kinds, readFrame}
 use Rattle.rules.specs.Order.{frameOf, readingChecks}
 use Rattle.rules.proofs.ChecksLaws.{then-pass, judged-map}
+use Rattle.rules.proofs.FrameLineLaws.{line-passes}
 use Rattle.rules.proofs.FramesLaws.{Fit, fits}
 use Rattle.digits.specs.Digits.{readInto}
 use Rattle.frames.specs.declared.FrameRead.{FrameRead}
@@ -141,10 +142,11 @@ module _ (line bytes : List ℕ) (r : FrameRead) (f : List ℕ) (room : 5 + uidM
   kept : firstRefusal (readingChecks line) ≡ passed → Kept f (frameOf line)
   kept v =
       let p : AllPass (readingChecks line) = then-pass (readingChecks line) v in
-      let is = frame-of line bytes (not-false _ (p .0)) in
+      let q = line-passes line p in
+      let is = frame-of line bytes (q .0) in
       let same : f ≡ placed (frameOf line) (decoded line ++ drop (length line / 2) bytes) =
       left ∙ ap (λ (w : Verdict Refusal). settle w (λ why. came) (placed (frameOf line) came)) v ∙ ap (placed (frameOf line)) is in
-      rw same (frame-kept (decoded line) _ (p .1) (rw same at room))
+      rw same (frame-kept (decoded line) _ (q .1) (rw same at room))
 
   pub means : meant f r ≡ judged (readingChecks line) refusal (frame (frameOf line))
   means =

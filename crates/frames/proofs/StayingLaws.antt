@@ -20,6 +20,7 @@ use Rattle.rules.specs.Frames.{Frame, manage, release, load, replace, clearOne,
 use Rattle.rules.specs.Frames.{unknown}
 use Rattle.rules.specs.Order.{frameOf, readingChecks}
 use Rattle.rules.proofs.ChecksLaws.{then-pass}
+use Rattle.rules.proofs.FrameLineLaws.{line-passes}
 use Rattle.rules.proofs.FramesLaws.{Fit, fits}
 use Rattle.digits.specs.Digits.{lineLength, readInto}
 use Rattle.digits.proofs.ReadingLaws.{bad-fits, length-decoded}
@@ -94,7 +95,7 @@ module _ (line bytes : List ℕ) (w : ℕ) (digits : length line ≤ digitsMost 
       → drop w (settle v (λ why. came) (placed (frameOf line) came)) ≡ drop w came
   judged-stays passed e =
       let p : AllPass (readingChecks line) = then-pass (readingChecks line) e in
-      placed-stays (frameOf line) (fits (decoded line) (p .1))
+      placed-stays (frameOf line) (fits (decoded line) (line-passes line p .1))
   judged-stays (refused q) e = refl
 
   pub reading-stays : drop w (readFrom line bytes .frame) ≡ drop w bytes

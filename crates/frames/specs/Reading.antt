@@ -6,8 +6,6 @@ use Prim.Native.Nat.{ℕ, _+_, _≤_}
 use lib.ListN.{length, take}
 use Rattle.cells.specs.Cells.{part, write}
 use Rattle.rules.specs.declared.Refusal.{Refusal}
-use Rattle.rules.specs.declared.LineRead.{LineRead}
-use Rattle.rules.specs.declared.LineRead.the-variants as line
 use Rattle.rules.specs.Checks.{judged}
 use Rattle.rules.specs.declared.Namespace.{Namespace}
 use Rattle.rules.specs.declared.Tag.{Tag}
@@ -107,14 +105,6 @@ Short NoRoom = Unit {0}
 Short NoLoad = Unit {0}
 Short BadKeyUid = Unit {0}
 Short (Brings l) = l ≤ uidMost
-
--- the bytes of a line that was read, 0 for what is no frame line
-abbrev pub bytesRead : LineRead → ℕ
-bytesRead (line.Bytes n) = n
-bytesRead line.Empty = 0
-bytesRead line.TooLong = 0
-bytesRead (line.BadDigit place) = 0
-bytesRead line.Odd = 0
 
 -- a load's and a replace's KeyUID and key fit, and lie in the bytes
 abbrev pub Lies : List ℕ → FrameRead → Type 0

@@ -4,7 +4,7 @@ ghost use mathlib.Core.Path.{_≡_};
 ghost use Prim.Native.Nat.{_+_};
 ghost use Rattle.cells.specs.Cells.{zeros};
 ghost use Rattle.rules.specs.Numbers.{uidMost, keySize};
-ghost use Rattle.frames.specs.Reading.{readFrom, bytesRead};
+ghost use Rattle.frames.specs.Reading.{readFrom};
 
 mod fields;
 mod kinds;
@@ -39,28 +39,14 @@ pub enum FrameRead {
     Refused(Refusal),
 }
 
-// How many bytes were read; 0 for what is no frame line, which has at least one.
-fn bytes_read(read: LineRead) -> usize
-    ensures { λ r. ⌜ r ≡ bytesRead read ⌝ }
-{
-    match read {
-        LineRead::Bytes(n) => n,
-        LineRead::Empty => 0,
-        LineRead::TooLong => 0,
-        LineRead::BadDigit(_) => 0,
-        LineRead::Odd => 0,
-    }
-}
-
 // 07 01 first, then by the kind.
 fn by_line(line: &[u8], frame: &mut [u8; FRAME_MOST], brought: &mut [u8; BROUGHT_MOST]) -> FrameRead
     ensures { λ r. ⌜ record { read = r; frame = now (frame .exit) } ≡ readFrom (now (line .entry)) (now (frame .entry)) ⌝ }
 {
-    let n = bytes_read(digits::read_line(line, frame));
-    if n == 0 {
-        return FrameRead::Refused(Refusal::NotAFrameLine);
+    match digits::read_line(line, frame) {
+        LineRead::Bytes(n) => kinds::front(frame, n, brought),
+        LineRead::Bad(why) => FrameRead::Refused(Refusal::NotAFrameLine(why)),
     }
-    kinds::front(frame, n, brought)
 }
 
 // Reads a line into the front of the frame. What a message brings goes through bytes that are lent too, and wiped: they held a key. (Here,

@@ -5,13 +5,17 @@ use mathlib.Core.Path.{_≡_, refl, sym, ap, _∙_}
 use mathlib.Core.Bool.{Bool, true, false, cond, true≢false}
 use mathlib.Core.List.{List, [], _∷_, _++_, append-assoc}
 use mathlib.Core.Logic.{⊎-elim}
-use Prim.Native.Nat.{ℕ, _+_, _*_, _/_, _%_, _^_, _≤_, _<_}
+use mathlib.Core.Option.{Option, none, some}
+use Prim.Native.Nat.{ℕ, zero, suc, _+_, _*_, _/_, _%_, _^_, _≤_, _<_}
 use native.Mathlib.Omega.{arith}
-use lib.ListN.{length, length-append}
+use lib.ListN.{length, getD, length-append}
 use lib.Dec.{eqb, ltb}
 use borrow.Author.Tests.{ltb-true, ltb-false}
 use Rattle.rules.specs.declared.Lock.{Lock}
 use Rattle.rules.specs.declared.Lock.the-variants.{WriteUnlocked, WriteLocked, WriteLockedUntilPowerCycle}
+use Rattle.rules.specs.declared.Command.{Command}
+use Rattle.rules.specs.declared.BadLine.{BadLine}
+use Rattle.rules.specs.declared.BadLine.the-variants.{Empty, TooLong, BadDigit, Odd}
 use Rattle.rules.specs.declared.Refusal.{Refusal}
 use Rattle.rules.specs.declared.Refusal.the-variants.{InvalidOpcode, InvalidField, InvalidNamespace, InvalidKeyTag, IncorrectKey}
 use Rattle.rules.specs.declared.Refusal.the-variants.{BlocksOutOfRange, LockNotChangeable, BootWriteProhibited, NotAFrameLine, UnknownKind}
@@ -24,19 +28,23 @@ use Rattle.cells.specs.Cells.{zeros}
 use Rattle.cells.specs.Predicates.{same}
 use Rattle.rules.specs.Numbers.{answerMost, discoverySize, discoveryMost}
 use Rattle.rules.specs.Discovery.{headerBytes, tperBytes, keyPerIoBytes, response, ownHeader, ownFields}
+use Rattle.rules.specs.Answers.{07·01, placeIn, faultOf, faultData, refusalData, FaultSayable}
 use Rattle.rules.specs.Answers.{refusalNumber, number, answerData, answerBytes, Sayable, AllSayable, lineFeed, digitOf, digitsOf, answerLine}
-use Rattle.rules.specs.Fields.{little}
+use Rattle.rules.specs.Fields.{little, byte}
 use Rattle.rules.specs.Locks.{lockValue}
-use Rattle.rules.specs.State.{State}
+use Rattle.rules.specs.Checks.{Check, _when_, Verdict, passed, refused, firstRefusal, settle, refusing, onlyIf}
+use Rattle.rules.specs.FrameLine.{decoded, lineChecks}
+use Rattle.rules.specs.State.{State, Rule, refuse, managed}
 use Rattle.rules.specs.Frames.{Frame, manage, release, load, replace, clearOne, clearAll, io}
 use Rattle.rules.specs.Frames.{setFeatures, getFeatures, bootWrite, reset, discovery, unknown}
+use Rattle.rules.specs.Frames.{readLoad, readReplace, readMessage, unknownKind, kinds, readFrame}
 use Rattle.rules.specs.Order as order
-use Rattle.rules.specs.Order.{frameRule, frameOf, readingChecks, lineRule, step}
+use Rattle.rules.specs.Order.{commandChecks, keyChecks, markCheck, isReading, frameRule, frameOf, readingChecks, lineRule, step}
 use Rattle.rules.specs.Call.{discoveryLine, roomFor}
 use Rattle.rules.specs.Sessions.{answersTo, endState, answerLines}
-use Rattle.rules.proofs.ChecksLaws.{pass-append}
-use Rattle.rules.proofs.StateLaws.{obeyed}
-use Rattle.rules.proofs.FrameLineLaws.{only-line}
+use Rattle.rules.proofs.ChecksLaws.{never-passed, pass-append, refused-append, refused-refusing}
+use Rattle.rules.proofs.StateLaws.{obeyed, done}
+use Rattle.rules.proofs.FrameLineLaws.{bad-place, only-line}
 
 -- ------------------------------------------------------------------------
 -- Digits
@@ -73,7 +81,7 @@ digits-then (b ∷ bs) (c ∷ cs) xs ys e =
 -- ------------------------------------------------------------------------
 -- Bytes
 
--- the refusal of the list with this number; the table's last where there is none
+-- the refusal of the list with this number, and for 07 01 one of its reasons; the table's last where there is none
 named : List Refusal → ℕ → Refusal
 named [] n = InvalidMessageKeyUid
 named (r ∷ more) n = cond (eqb (refusalNumber r) n) r (named more n)
@@ -82,50 +90,95 @@ refusalOf : ℕ → Refusal
 refusalOf n =
     named
     (InvalidOpcode ∷ InvalidField ∷ InvalidNamespace ∷ InvalidKeyTag ∷ IncorrectKey ∷ BlocksOutOfRange ∷ LockNotChangeable ∷ BootWriteProhibited
-    ∷ NotAFrameLine ∷ UnknownKind ∷ WrongLength ∷ BadKeyUidLength ∷ AlreadyManaged ∷ NotManaged ∷ BadTagCount ∷ PoolTooSmall
+    ∷ NotAFrameLine Empty ∷ UnknownKind ∷ WrongLength ∷ BadKeyUidLength ∷ AlreadyManaged ∷ NotManaged ∷ BadTagCount ∷ PoolTooSmall
     ∷ SlotOccupied ∷ SlotEmpty ∷ OtherOldKeyUid ∷ OtherKey ∷ WrongStore ∷ UnsoundState ∷ OutputTooShort ∷ NotAResponse
     ∷ InvalidMessage ∷ [])
     n
 
-named-back : (r : Refusal) → refusalOf (refusalNumber r) ≡ r
-unfolding refusalOf named
-named-back InvalidOpcode = refl
-named-back InvalidField = refl
-named-back InvalidNamespace = refl
-named-back InvalidKeyTag = refl
-named-back IncorrectKey = refl
-named-back BlocksOutOfRange = refl
-named-back LockNotChangeable = refl
-named-back BootWriteProhibited = refl
-named-back NotAFrameLine = refl
-named-back UnknownKind = refl
-named-back WrongLength = refl
-named-back BadKeyUidLength = refl
-named-back AlreadyManaged = refl
-named-back NotManaged = refl
-named-back BadTagCount = refl
-named-back PoolTooSmall = refl
-named-back SlotOccupied = refl
-named-back SlotEmpty = refl
-named-back OtherOldKeyUid = refl
-named-back OtherKey = refl
-named-back WrongStore = refl
-named-back UnsoundState = refl
-named-back OutputTooShort = refl
-named-back NotAResponse = refl
-named-back InvalidMessage = refl
-named-back InvalidMessageKeyUid = refl
+-- the reason that the data tells
+faultIn : List ℕ → BadLine
+faultIn [] = Odd
+faultIn (why ∷ place) = cond (eqb why 1) Empty (cond (eqb why 2) TooLong (cond (eqb why 3) (BadDigit (little place)) Odd))
 
-same-refusal : (q r : Refusal) → refusalNumber q ≡ refusalNumber r → q ≡ r
-same-refusal q r e = cc (named-back q, named-back r)
+withFault : Refusal → List ℕ → Refusal
+withFault r xs = elim (faultOf r) [
+  | none ↦ r
+  | some why ↦ NotAFrameLine (faultIn xs)
+]
 
--- no refusal has the number 0: it is read back as the table's last, whose number is another
+place-back : (p : ℕ) → p < 2 ^ 16 → little (p % 256 ∷ p / 256 % 256 ∷ []) ≡ p
+unfolding little
+place-back p h = omega arith
+
+fault-back : (why : BadLine) → placeIn why < 2 ^ 16 → faultIn (faultData (some why)) ≡ why
+unfolding faultIn
+fault-back Empty h = refl
+fault-back TooLong h = refl
+fault-back (BadDigit place) h = ap BadDigit (place-back place h)
+fault-back Odd h = refl
+
+named-back : (r : Refusal) → FaultSayable (faultOf r) → withFault (refusalOf (refusalNumber r)) (refusalData r) ≡ r
+unfolding refusalOf named withFault faultOf
+named-back InvalidOpcode h = refl
+named-back InvalidField h = refl
+named-back InvalidNamespace h = refl
+named-back InvalidKeyTag h = refl
+named-back IncorrectKey h = refl
+named-back BlocksOutOfRange h = refl
+named-back LockNotChangeable h = refl
+named-back BootWriteProhibited h = refl
+named-back (NotAFrameLine why) h = ap NotAFrameLine (fault-back why h)
+named-back UnknownKind h = refl
+named-back WrongLength h = refl
+named-back BadKeyUidLength h = refl
+named-back AlreadyManaged h = refl
+named-back NotManaged h = refl
+named-back BadTagCount h = refl
+named-back PoolTooSmall h = refl
+named-back SlotOccupied h = refl
+named-back SlotEmpty h = refl
+named-back OtherOldKeyUid h = refl
+named-back OtherKey h = refl
+named-back WrongStore h = refl
+named-back UnsoundState h = refl
+named-back OutputTooShort h = refl
+named-back NotAResponse h = refl
+named-back InvalidMessage h = refl
+named-back InvalidMessageKeyUid h = refl
+
+same-refusal : (q r : Refusal) → FaultSayable (faultOf q) → FaultSayable (faultOf r) → refusalNumber q ≡ refusalNumber r
+    → refusalData q ≡ refusalData r → q ≡ r
+same-refusal q r s t e f =
+    sym (named-back q s) ∙ ap (λ n. withFault (refusalOf n) (refusalData q)) e ∙ ap (withFault (refusalOf (refusalNumber r))) f ∙ named-back r t
+
+-- no refusal has the number 0
 pub some-number : (r : Refusal) → 0 ≡ refusalNumber r → ⊥
-unfolding refusalOf named
-some-number r e =
-    let last : InvalidMessageKeyUid ≡ r = ap refusalOf e ∙ named-back r in
-    let n : 0x0718 ≡ refusalNumber r = ap refusalNumber last in
-    omega arith
+some-number InvalidOpcode e = omega arith
+some-number InvalidField e = omega arith
+some-number InvalidNamespace e = omega arith
+some-number InvalidKeyTag e = omega arith
+some-number IncorrectKey e = omega arith
+some-number BlocksOutOfRange e = omega arith
+some-number LockNotChangeable e = omega arith
+some-number BootWriteProhibited e = omega arith
+some-number (NotAFrameLine why) e = omega arith
+some-number UnknownKind e = omega arith
+some-number WrongLength e = omega arith
+some-number BadKeyUidLength e = omega arith
+some-number AlreadyManaged e = omega arith
+some-number NotManaged e = omega arith
+some-number BadTagCount e = omega arith
+some-number PoolTooSmall e = omega arith
+some-number SlotOccupied e = omega arith
+some-number SlotEmpty e = omega arith
+some-number OtherOldKeyUid e = omega arith
+some-number OtherKey e = omega arith
+some-number WrongStore e = omega arith
+some-number UnsoundState e = omega arith
+some-number OutputTooShort e = omega arith
+some-number NotAResponse e = omega arith
+some-number InvalidMessage e = omega arith
+some-number InvalidMessageKeyUid e = omega arith
 
 -- the data bytes, read as a frame's numbers are
 data-back : (d : ℕ) → d < 2 ^ 32 → little (answerData (LockStates d)) ≡ d
@@ -141,17 +194,21 @@ data-length : length (answerData Discovery) ≡ discoverySize
 unfolding response headerBytes tperBytes keyPerIoBytes ownFields ownHeader zeros
 data-length = refl
 
+fault-length : (o : Option BadLine) → length (faultData o) ≤ 4
+fault-length none = omega arith
+fault-length (some why) = omega arith
+
 other-length : (a : Answer) → (a ≡ Discovery → ⊥) → length (answerData a) ≤ 4
 other-length Done n = omega arith
 other-length (LockStates d) n = omega arith
 other-length Discovery n = absurd (n refl)
-other-length (Refused r) n = omega arith
+other-length (Refused r) n = fault-length (faultOf r)
 
 most-data : (a : Answer) → length (answerData a) ≤ discoverySize
 most-data Done = omega arith
 most-data (LockStates d) = omega arith
 most-data Discovery = omega (arith, data-length)
-most-data (Refused r) = omega arith
+most-data (Refused r) = omega (arith, fault-length (faultOf r))
 
 same-answer : (a b : Answer) → Sayable a → Sayable b → number a ≡ number b → answerData a ≡ answerData b → a ≡ b
 same-answer Done Done p q e f = refl
@@ -169,7 +226,7 @@ same-answer Discovery (Refused r) p q e f = absurd (some-number r e)
 same-answer (Refused r) Done p q e f = absurd (some-number r (sym e))
 same-answer (Refused r) (LockStates d) p q e f = absurd (some-number r (sym e))
 same-answer (Refused r) Discovery p q e f = absurd (some-number r (sym e))
-same-answer (Refused q) (Refused r) s t e f = ap Refused (same-refusal q r e)
+same-answer (Refused q) (Refused r) s t e f = ap Refused (same-refusal q r s t e f)
 
 bytes-then : (a b : Answer) → Sayable a → Sayable b → answerBytes a ≡ answerBytes b → a ≡ b
 bytes-then a b p q e =
@@ -231,9 +288,104 @@ sayable-frame s (reset level) = tt
 sayable-frame s discovery = tt
 sayable-frame s unknown = tt
 
-pub sayable-step : (s : State) (line : List ℕ) → Sayable (step s line .answer)
+-- the checks of a frame that was read have no fault of the line to tell
+noFaults : List (Check Refusal) → Bool
+noFaults [] = true
+noFaults ((r when failed) ∷ cs) = elim (faultOf r) [
+  | none ↦ noFaults cs
+  | some why ↦ false
+]
+
+without : (cs : List (Check Refusal)) (r : Refusal) → noFaults cs ≡ true → firstRefusal cs ≡ refused r → FaultSayable (faultOf r)
+unfolding noFaults
+without [] r n e = absurd (never-passed e)
+without ((q when true) ∷ cs) r n e = let z : q ≡ r = cc in rw (← z) (by (faultOf q) n)
+  where
+    by : (o : Option BadLine) → elim o [
+      | none ↦ noFaults cs
+      | some why ↦ false
+    ] ≡ true → FaultSayable o
+    by none n = tt
+    by (some why) n = absurd (true≢false (sym n))
+without ((q when false) ∷ cs) r n e = without cs r (by (faultOf q) n) e
+  where
+    by : (o : Option BadLine) → elim o [
+      | none ↦ noFaults cs
+      | some why ↦ false
+    ] ≡ true → noFaults cs ≡ true
+    by none n = n
+    by (some why) n = absurd (true≢false (sym n))
+
+kind-faults : (f : List ℕ) (k : ℕ) → noFaults (getD (kinds f) k unknownKind .checks) ≡ true
+unfolding kinds readLoad readReplace readMessage noFaults faultOf
+kind-faults f zero = refl
+kind-faults f (suc zero) = refl
+kind-faults f (suc (suc zero)) = refl
+kind-faults f (suc (suc (suc zero))) = refl
+kind-faults f (suc (suc (suc (suc zero)))) = refl
+kind-faults f (suc (suc (suc (suc (suc zero))))) = refl
+kind-faults f (suc (suc (suc (suc (suc (suc zero)))))) = refl
+kind-faults f (suc (suc (suc (suc (suc (suc (suc zero))))))) = refl
+kind-faults f (suc (suc (suc (suc (suc (suc (suc (suc zero)))))))) = refl
+kind-faults f (suc (suc (suc (suc (suc (suc (suc (suc (suc zero))))))))) = refl
+kind-faults f (suc (suc (suc (suc (suc (suc (suc (suc (suc (suc zero)))))))))) = refl
+kind-faults f (suc (suc (suc (suc (suc (suc (suc (suc (suc (suc (suc zero))))))))))) = refl
+kind-faults f (suc (suc (suc (suc (suc (suc (suc (suc (suc (suc (suc (suc zero)))))))))))) = refl
+kind-faults f (suc (suc (suc (suc (suc (suc (suc (suc (suc (suc (suc (suc (suc zero))))))))))))) = refl
+kind-faults f (suc (suc (suc (suc (suc (suc (suc (suc (suc (suc (suc (suc (suc (suc k)))))))))))))) = refl
+
+command-faults : (s : State) (c : Command) (m r : Bool)
+    → noFaults (commandChecks c ++ onlyIf m (keyChecks s c ++ onlyIf r (markCheck s c))) ≡ true
+unfolding noFaults faultOf
+command-faults s c true true = refl
+command-faults s c true false = refl
+command-faults s c false r = refl
+
+rule-faults : (s : State) (f : Frame) → noFaults (frameRule s f .checks) ≡ true
+unfolding frameRule order.manage order.release order.load order.replace order.clearOne order.clearAll
+    order.command order.setFeatures order.getFeatures order.bootWrite order.reset order.discovery noFaults faultOf
+rule-faults s (manage ns tags) = refl
+rule-faults s (release ns) = refl
+rule-faults s (load ns tag x) = refl
+rule-faults s (replace ns tag old x) = refl
+rule-faults s (clearOne ns tag) = refl
+rule-faults s (clearAll ns) = refl
+rule-faults s (io c) = command-faults s c (managed s (c .ns)) (isReading c)
+rule-faults s (setFeatures dword11) = refl
+rule-faults s getFeatures = refl
+rule-faults s (bootWrite partition) = refl
+rule-faults s (reset level) = refl
+rule-faults s discovery = refl
+rule-faults s unknown = refl
+
+-- the fault of a line has a place in it
+line-fault : (line : List ℕ) (r : Refusal) → firstRefusal (refusing 07·01 (lineChecks line)) ≡ refused r → FaultSayable (faultOf r)
+unfolding faultOf
+line-fault line r e =
+    let f = refused-refusing 07·01 (lineChecks line) r e in
+    rw (f .1 .1) (omega (arith, bad-place line (f .0) (f .1 .0)))
+
+step-fault : (s : State) (line : List ℕ) (r : Refusal) → firstRefusal (lineRule s line .checks) ≡ refused r → FaultSayable (faultOf r)
+unfolding lineRule readFrame
+step-fault s line r e =
+    let f : List ℕ = decoded line in
+    ⊎-elim
+    (λ reading. ⊎-elim (line-fault line r) (without _ r (kind-faults f (byte 0 f)))
+    (refused-append (refusing 07·01 (lineChecks line)) (readFrame f .checks) r reading))
+    (without (frameRule s (frameOf line) .checks) r (rule-faults s (frameOf line)))
+    (refused-append (readingChecks line) (frameRule s (frameOf line) .checks) r e)
+
+rule-said : (s : State) (line : List ℕ) → Sayable (lineRule s line .answer)
 unfolding lineRule
-sayable-step s line = ⊎-elim (λ r. rw (r .1) tt) (λ p. rw (p .1) (sayable-frame s (frameOf line))) (obeyed s (lineRule s line))
+rule-said s line = sayable-frame s (frameOf line)
+
+said : (s : State) (rule : Rule) (v : Verdict Refusal) → ((r : Refusal) → v ≡ refused r → FaultSayable (faultOf r)) → Sayable (rule .answer)
+    → Sayable (settle v (refuse s) (done rule) .answer)
+said s rule passed h a = a
+said s rule (refused r) h a = h r refl
+
+pub sayable-step : (s : State) (line : List ℕ) → Sayable (step s line .answer)
+sayable-step s line = said s (lineRule s line) (firstRefusal (lineRule s line .checks)) (step-fault s line) (rule-said s line)
 
 -- only a line that is read as discovery is answered so
 asks : (s : State) (f : Frame) → frameRule s f .answer ≡ Discovery → f ≡ discovery

@@ -6,7 +6,7 @@ use mathlib.Core.Bool.{true}
 use Rattle.cells.specs.Cells.{part, write, zeros, copies, cell, put, fill}
 use Rattle.cells.specs.Predicates.{same, allZero, someFrom, someCell}
 use Rattle.rules.specs.Discovery.{headerBytes, tperBytes, keyPerIoBytes, response, ownHeader, ownTper, ownKeyPerIo, ownFields}
-use Rattle.rules.specs.Answers.{digitsOf, answerLine}
+use Rattle.rules.specs.Answers.{faultOf, digitsOf, answerLine}
 use Rattle.rules.specs.Fields.{little, bigEndian}
 use Rattle.rules.specs.Ttlv.{isValue, frontOf, front, withValue, withStructure, onFront, readBy, readAt}
 use Rattle.rules.specs.Kmip.{from, valueThen, structureThen, inOrder, lacks, eachVendored, named, isRequest, loadIn}
@@ -26,7 +26,7 @@ use Rattle.rules.specs.Examples.{codes, table, sessionRight, ExamplesRig
 use Rattle.rules.proofs.ExamplesLaws.{rightOn, allRightOn, all-right-on}
 
 pub examples-right : ExamplesRight
-unfolding part write zeros copies cell put fill same allZero someFrom someCell digitsOf answerLine firstBad decoded lineChecks readLine little padded
+unfolding part write zeros copies cell put fill same allZero someFrom someCell faultOf digitsOf answerLine firstBad decoded lineChecks readLine little padded
     slotBytes uidOf keyOf held otherKeyIn otherKey keptIdentity someAbove slotUnsound unsound commandOf readLoad readReplace kinds readFrame setCount
     storeKey emptySlot emptySlots emptyAllSlots zeroMarks markCovered manage release clearAll load replace clearOne wrongKey command setFeatures
     headerBytes tperBytes keyPerIoBytes response ownHeader ownTper ownKeyPerIo ownFields

@@ -20,6 +20,7 @@ use Rattle.rules.specs.Order.{frameRule, frameOf, readingChecks, lineRul
 use Rattle.rules.specs.History.{touches, leaves}
 use Rattle.rules.proofs.ChecksLaws.{pass-append, judged-append, judged-pass}
 use Rattle.rules.proofs.StateLaws.{done, obeyed}
+use Rattle.rules.proofs.FrameLineLaws.{line-passes}
 use Rattle.rules.proofs.FramesLaws.{Fit, fits}
 use Rattle.rules.proofs.SlotsLaws.{bytesOf}
 use Rattle.rules.proofs.SoundLaws.{sound-emptied, sound-stored, sound-slot, sound-from}
@@ -43,7 +44,7 @@ taken : (s : State) (line : List ℕ) → AllPass (lineRule s line .checks) → 
 unfolding lineRule
 taken s line p e =
     let both = pass-append (readingChecks line) (frameRule s (frameOf line) .checks) p in
-    record { read = both .0; fit = fits (decoded line) (both .0 .1); passes = both .1; is = e }
+    record { read = both .0; fit = fits (decoded line) (line-passes line (both .0) .1); passes = both .1; is = e }
 
 pub refused-or-taken : (s : State) (line : List ℕ) → ((r : Refusal) × (step s line ≡ refuse s r)) ⊎ Taken s line
 refused-or-taken s line = ⊎-elim (λ f. inl f) (λ p. inr (taken s line (p .0) (p .1))) (obeyed s (lineRule s line))

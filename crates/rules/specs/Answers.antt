@@ -3,8 +3,11 @@
 -- Assumes nothing.
 use mathlib.Core.Bool.{Bool, true, false, cond}
 use mathlib.Core.List.{List, [], _∷_, _++_}
+use mathlib.Core.Option.{Option, none, some}
 use Prim.Native.Nat.{ℕ, _+_, _/_, _%_, _^_, _<_}
 use lib.Dec.{ltb}
+use Rattle.rules.specs.declared.BadLine.{BadLine}
+use Rattle.rules.specs.declared.BadLine.the-variants.{Empty, TooLong, BadDigit, Odd}
 use Rattle.rules.specs.declared.Refusal.{Refusal}
 use Rattle.rules.specs.declared.Refusal.the-variants.{InvalidOpcode, InvalidField, InvalidNamespace, InvalidKeyTag, IncorrectKey}
 use Rattle.rules.specs.declared.Refusal.the-variants.{BlocksOutOfRange, LockNotChangeable, BootWriteProhibited, NotAFrameLine, UnknownKind}
@@ -24,7 +27,7 @@ refusalNumber IncorrectKey = 0x0028
 refusalNumber BlocksOutOfRange = 0x0080
 refusalNumber LockNotChangeable = 0x010E
 refusalNumber BootWriteProhibited = 0x011E
-refusalNumber NotAFrameLine = 0x0701
+refusalNumber (NotAFrameLine why) = 0x0701
 refusalNumber UnknownKind = 0x0702
 refusalNumber WrongLength = 0x0703
 refusalNumber BadKeyUidLength = 0x0704
@@ -57,12 +60,60 @@ accepted (Refused r) = false
 
 -- ------------------------------------------------------------------------
 -- An answer's line: a status type byte, a status code byte and, for kind 09, 4
--- data bytes, the lowest first, for kind 0C the discovery response; uppercase
--- digits and a line feed
+-- data bytes, the lowest first, for kind 0C the discovery response, for 07 01 why
+-- and where the line is bad; uppercase digits and a line feed
 
--- the data that a refusal carries: none today
+-- "reason (1 empty, 2 too long, 3 bad digit, 4 odd)"
+abbrev pub reason : BadLine → ℕ
+reason Empty = 1
+reason TooLong = 2
+reason (BadDigit place) = 3
+reason Odd = 4
+
+-- "a two-byte place from 0, zero where it doesn't apply"
+abbrev pub placeIn : BadLine → ℕ
+placeIn Empty = 0
+placeIn TooLong = 0
+placeIn (BadDigit place) = place
+placeIn Odd = 0
+
+-- what 07 01 alone has to tell
+unfoldable pub faultOf : Refusal → Option BadLine
+faultOf InvalidOpcode = none
+faultOf InvalidField = none
+faultOf InvalidNamespace = none
+faultOf InvalidKeyTag = none
+faultOf IncorrectKey = none
+faultOf BlocksOutOfRange = none
+faultOf LockNotChangeable = none
+faultOf BootWriteProhibited = none
+faultOf (NotAFrameLine why) = some why
+faultOf UnknownKind = none
+faultOf WrongLength = none
+faultOf BadKeyUidLength = none
+faultOf AlreadyManaged = none
+faultOf NotManaged = none
+faultOf BadTagCount = none
+faultOf PoolTooSmall = none
+faultOf SlotOccupied = none
+faultOf SlotEmpty = none
+faultOf OtherOldKeyUid = none
+faultOf OtherKey = none
+faultOf WrongStore = none
+faultOf UnsoundState = none
+faultOf OutputTooShort = none
+faultOf NotAResponse = none
+faultOf InvalidMessage = none
+faultOf InvalidMessageKeyUid = none
+
+-- the place's lowest byte first
+abbrev pub faultData : Option BadLine → List ℕ
+faultData none = []
+faultData (some why) = reason why ∷ placeIn why % 256 ∷ placeIn why / 256 % 256 ∷ []
+
+-- the data that a refusal carries
 abbrev pub refusalData : Refusal → List ℕ
-refusalData r = []
+refusalData r = faultData (faultOf r)
 
 abbrev pub answerData : Answer → List ℕ
 answerData Done = []
@@ -74,11 +125,15 @@ abbrev pub answerBytes : Answer → List ℕ
 answerBytes a = number a / 256 ∷ number a % 256 ∷ answerData a
 
 -- the data fits the bytes that it is said in
+abbrev pub FaultSayable : Option BadLine → Type 0
+FaultSayable none = Unit {0}
+FaultSayable (some why) = placeIn why < 2 ^ 16
+
 abbrev pub Sayable : Answer → Type 0
 Sayable Done = Unit {0}
 Sayable (LockStates d) = d < 2 ^ 32
 Sayable Discovery = Unit {0}
-Sayable (Refused r) = Unit {0}
+Sayable (Refused r) = FaultSayable (faultOf r)
 
 abbrev pub AllSayable : List Answer → Type 0
 AllSayable [] = Unit {0}
@@ -125,8 +180,8 @@ abbrev pub 01·0E : Refusal
 abbrev pub 01·1E : Refusal
 01·1E = BootWriteProhibited
 
-abbrev pub 07·01 : Refusal
-07·01 = NotAFrameLine
+abbrev pub 07·01 : BadLine → Refusal
+07·01 why = NotAFrameLine why
 
 abbrev pub 07·02 : Refusal
 07·02 = UnknownKind

@@ -1,6 +1,6 @@
 -- "Bench examples": P1 to P10 and the paper's session as one table, lines and
 -- answers in the paper's own digits; D1 for discovery, M1 for whole KeyUIDs, K1 to
--- K3 for loads in KMIP form. Each row starts from a fresh drive and each line is a
+-- K3 for loads in KMIP form, L1 for bad lines. Each row starts from a fresh drive and each line is a
 -- whole call with just the room that it asks.
 -- Assumes nothing.
 use mathlib.Core.Path.{_≡_}
@@ -154,7 +154,10 @@ table =
     ∷ "0D010000" ⁀ messageWith "00000198" "00000150" "00000138" "00000011AAAAAAAAAAAAAAAAAAAAAAAAAAAAAAAAAA00000000000000" answers "0718"
     ∷ "0D010000" ⁀ messageWith "00000190" "00000148" "00000130" "00000010AAAAAAAAAAAAAAAAAAAAAAAAAAAAAAAA" answers "0000" ∷ [])
     -- K3: a message needs a head of 4 bytes and a byte of its own; a line of 1,024 digits is read, one of 1,026 is not
-    ∷ ("0D0100" answers "0703" ∷ "0D010000" answers "0717" ∷ "0900" ⁀ tenZ answers "0703" ∷ "090000" ⁀ tenZ answers "0701" ∷ [])
+    ∷ ("0D0100" answers "0703" ∷ "0D010000" answers "0717" ∷ "0900" ⁀ tenZ answers "0703" ∷ "090000" ⁀ tenZ answers "0701020000" ∷ [])
+    -- L1: why a line is no frame line: empty; too long, whatever else; the first bad digit, though there are two and the line is odd; odd
+    ∷ ("" answers "0701010000" ∷ "x" ⁀ tenZ ⁀ "0000" answers "0701020000" ∷ "0x0y0" answers "0701030100" ∷ "010" answers "0701040000"
+    ∷ tenZ ⁀ "09 " answers "070103FE03" ∷ [])
     -- the session that the paper gives whole
     ∷ ("010102" answers "0000" ∷ "0301000001AA" ⁀ K answers "0000" ∷ "05010100" answers "070A"
     ∷ "09" answers "000012000000" ∷ "0B01" answers "0000" ∷ "05010000" answers "070A" ∷ [])

@@ -1,5 +1,6 @@
--- "The frame line": 2 to 140 digits from 0-9 and A-F, even in number, without
--- the line feed; two digits a byte.
+-- "The frame line": 2 to 1,024 digits from 0-9 and A-F, even in number, without
+-- the line feed; two digits a byte. Why a line is none: empty, then too long, then a
+-- bad digit, then odd.
 -- Assumes nothing.
 use mathlib.Core.Bool.{Bool, true, false, _&&_, _||_, cond}
 use mathlib.Core.List.{List, [], _∷_}
@@ -7,7 +8,9 @@ use Prim.Native.Nat.{ℕ, suc, _+_, _-_, _*_, _/_, _%_}
 use lib.ListN.{length}
 use lib.Dec.{eqb, leb, ltb}
 use Rattle.rules.specs.declared.LineRead.{LineRead}
-use Rattle.rules.specs.declared.LineRead.the-variants.{Bytes, Empty, TooLong, BadDigit, Odd}
+use Rattle.rules.specs.declared.LineRead.the-variants.{Bytes, Bad}
+use Rattle.rules.specs.declared.BadLine.{BadLine}
+use Rattle.rules.specs.declared.BadLine.the-variants.{Empty, TooLong, BadDigit, Odd}
 use Rattle.rules.specs.Numbers.{digitsMost}
 use Rattle.rules.specs.Checks.{Check, _when_, judged}
 
@@ -28,7 +31,7 @@ decoded [] = []
 decoded (a ∷ []) = []
 decoded (a ∷ b ∷ ds) = (valueOf a * 16 + valueOf b) ∷ decoded ds
 
-unfoldable pub lineChecks : List ℕ → List (Check LineRead)
+unfoldable pub lineChecks : List ℕ → List (Check BadLine)
 lineChecks line =
     Empty when eqb (length line) 0
     ∷ TooLong when ltb digitsMost (length line)
@@ -38,14 +41,11 @@ lineChecks line =
 
 -- how many bytes, or why the line is no frame line
 unfoldable pub readLine : List ℕ → LineRead
-readLine line = judged (lineChecks line) (λ why. why) (Bytes (length line / 2))
+readLine line = judged (lineChecks line) Bad (Bytes (length line / 2))
 
 abbrev pub isBytes : LineRead → Bool
 isBytes (Bytes n) = true
-isBytes Empty = false
-isBytes TooLong = false
-isBytes (BadDigit place) = false
-isBytes Odd = false
+isBytes (Bad why) = false
 
 abbrev pub isFrameLine : List ℕ → Bool
 isFrameLine line = isBytes (readLine line)

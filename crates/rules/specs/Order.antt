@@ -13,11 +13,11 @@ use Rattle.rules.specs.declared.Lock.the-variants.{WriteUnlocked}
 use Rattle.rules.specs.declared.Refusal.{Refusal}
 use Rattle.rules.specs.declared.Answer.the-variants.{Done, LockStates, Discovery}
 use Rattle.rules.specs.Numbers.{blocksEach, poolSlots, tagsMost, markWidth}
-use Rattle.rules.specs.Checks.{Check, _when_, onlyIf, AllPass}
+use Rattle.rules.specs.Checks.{Check, _when_, onlyIf, AllPass, refusing}
 use Rattle.rules.specs.Answers.{00·01, 00·02, 00·0B, 00·25, 00·28, 00·80, 01·0E, 01·1E, 07·01}
 use Rattle.rules.specs.Answers.{07·02, 07·05, 07·06, 07·07, 07·08, 07·09, 07·0A}
 use Rattle.rules.specs.Answers.{07·0B, 07·0C}
-use Rattle.rules.specs.FrameLine.{isFrameLine, decoded}
+use Rattle.rules.specs.FrameLine.{lineChecks, decoded}
 use Rattle.rules.specs.State.{State, Outcome, Rule, obey, noNamespace, managed, tagAbove, total}
 use Rattle.rules.specs.Slots.{Contents, slot, empty, loaded, uidOf, held, otherKey}
 use Rattle.rules.specs.Marks.{blockOf, identityOf, differs}
@@ -226,7 +226,7 @@ abbrev pub frameOf : List ℕ → Frame
 frameOf line = readFrame (decoded line) .frame
 
 abbrev pub readingChecks : List ℕ → List (Check Refusal)
-readingChecks line = 07·01 when not (isFrameLine line) ∷ readFrame (decoded line) .checks
+readingChecks line = refusing 07·01 (lineChecks line) ++ readFrame (decoded line) .checks
 
 -- the line is read as this frame
 abbrev pub Reads : List ℕ → Frame → Type 0

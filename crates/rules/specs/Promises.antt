@@ -8,7 +8,11 @@ use mathlib.Core.Bool.{true, false}
 use mathlib.Core.Logic.{_↔_, _⊎_}
 use mathlib.Core.List.{List, [], _∷_, _++_}
 use Prim.Native.Nat.{ℕ, _+_, _≤_, _<_}
-use lib.ListN.{length}
+use lib.ListN.{length, getD}
+use Rattle.rules.specs.declared.BadLine.{BadLine}
+use Rattle.rules.specs.declared.BadLine.the-variants.{BadDigit}
+use Rattle.rules.specs.declared.LineRead.the-variants.{Bad}
+use Rattle.rules.specs.FrameLine.{isDigit, readLine}
 use Rattle.rules.specs.declared.Namespace.{Namespace}
 use Rattle.rules.specs.declared.Tag.{Tag}
 use Rattle.rules.specs.declared.Command.{Command}
@@ -16,7 +20,7 @@ use Rattle.rules.specs.declared.Lock.the-variants.{WriteLockedUntilPower
 use Rattle.rules.specs.declared.Refusal.{Refusal}
 use Rattle.rules.specs.declared.Answer.{Answer}
 use Rattle.rules.specs.declared.Answer.the-variants.{Done, Refused}
-use Rattle.rules.specs.Numbers.{namespaces, poolSlots, tagsMost}
+use Rattle.rules.specs.Numbers.{namespaces, poolSlots, tagsMost, digitsMost}
 use Rattle.rules.specs.Checks.{Check, AllPass, FirstToFail}
 use Rattle.rules.specs.Answers.{refusalNumber, answerLine, lineFeed, accepted}
 use Rattle.rules.specs.Answers.{00·01, 00·02, 00·0B, 00·25, 00·28, 00·80, 01·0E, 01·1E, 07·01}
@@ -46,7 +50,7 @@ pub record NumbersAsNamed : Type 0 where
   pub is-00·80 : refusalNumber 00·80 ≡ 0x0080
   pub is-01·0E : refusalNumber 01·0E ≡ 0x010E
   pub is-01·1E : refusalNumber 01·1E ≡ 0x011E
-  pub is-07·01 : refusalNumber 07·01 ≡ 0x0701
+  pub is-07·01 : (why : BadLine) → refusalNumber (07·01 why) ≡ 0x0701
   pub is-07·02 : refusalNumber 07·02 ≡ 0x0702
   pub is-07·03 : refusalNumber 07·03 ≡ 0x0703
   pub is-07·04 : refusalNumber 07·04 ≡ 0x0704
@@ -91,6 +95,18 @@ GiveBack lines text = (fed lines ≡ text) ⊎ ((fed lines ≡ text ++ (lineFeed
 
 abbrev pub LinesOfText : Type 0
 LinesOfText = (text : List ℕ) → NoneFed (linesOf text) × GiveBack (linesOf text) text
+
+-- ------------------------------------------------------------------------
+-- "the place of the first bad digit": it stands in the line, it is no digit, and all before it are
+
+pub record FirstBadDigit (line : List ℕ) (place : ℕ) : Type 0 where
+  pub short : length line ≤ digitsMost
+  pub inside : place < length line
+  pub bad : isDigit (getD line place 0) ≡ false
+  pub before : (k : ℕ) → k < place → isDigit (getD line k 0) ≡ true
+
+abbrev pub PlaceToldIsFirst : Type 0
+PlaceToldIsFirst = (line : List ℕ) (place : ℕ) → readLine line ≡ Bad (BadDigit place) → FirstBadDigit line place
 
 -- ------------------------------------------------------------------------
 -- What the statements are over, and the definitions' own relations

@@ -84,6 +84,14 @@ pub struct Registers {
     pub locks: BootLocks,
 }
 
+// Why a line is no frame line. A bad digit is told by its place, that of the first.
+pub enum BadLine {
+    Empty,
+    TooLong,
+    BadDigit(usize),
+    Odd,
+}
+
 // The paper's table of refusals, in its order.
 pub enum Refusal {
     InvalidOpcode,
@@ -94,7 +102,7 @@ pub enum Refusal {
     BlocksOutOfRange,
     LockNotChangeable,
     BootWriteProhibited,
-    NotAFrameLine,
+    NotAFrameLine(BadLine),
     UnknownKind,
     WrongLength,
     BadKeyUidLength,
@@ -125,10 +133,7 @@ pub enum Answer {
 // A line read: how many bytes it has, or why it is no frame line.
 pub enum LineRead {
     Bytes(usize),
-    Empty,
-    TooLong,
-    BadDigit(usize),
-    Odd,
+    Bad(BadLine),
 }
 
 // Level 0 Discovery, as section 3.1.1 of 001 has it: each field a number of so many bits, in its order and with its names (docs/DISCOVERY.md).

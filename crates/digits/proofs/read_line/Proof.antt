@@ -6,7 +6,7 @@ use Prim.Native.Nat.{_/_, _<_, _≤_}
 use lib.ListN.{length, drop}
 use borrow.Author.Tests.{not-true, not-false, eqb-true, eq-eqb, ne-eqb, lt-ltb, le-ltb, le-leb, lt-leb}
 use borrow.Author.Needs.{needs}
-use Rattle.rules.specs.declared.LineRead.the-variants.{Bytes}
+use Rattle.rules.specs.declared.LineRead.the-variants.{Bytes, Bad}
 use Rattle.rules.specs.Checks.{judged}
 use Rattle.rules.specs.FrameLine.{firstBad, lineChecks, readLine}
 use Rattle.digits.specs.Digits.{readInto}
@@ -29,7 +29,7 @@ returns-2 c =
 decides : (d : tie.After-all-digits) → let s = d .before .before .before .before .args in
     readInto (s .line .now) (s .frame .now)
     ≡ record {
-      read = judged (drop 2 (lineChecks (s .line .now))) (λ why. why) (Bytes (length (s .line .now) / 2));
+      read = judged (drop 2 (lineChecks (s .line .now))) Bad (Bytes (length (s .line .now) / 2));
       frame = framed (s .line .now) (s .frame .now);
     }
 unfolding readInto readLine lineChecks framed
@@ -59,7 +59,7 @@ decode-all-requires c κs =
 full : (d : tie.After-decode-all) → let s = d .before .before .before .before .before .before .before .args in
     readInto (s .line .now) (s .frame .now)
     ≡ record {
-      read = judged (drop 3 (lineChecks (s .line .now))) (λ why. why) (Bytes (length (s .line .now) / 2));
+      read = judged (drop 3 (lineChecks (s .line .now))) Bad (Bytes (length (s .line .now) / 2));
       frame = d .decode-all .last .1 .0;
     }
 unfolding lineChecks
