@@ -106,7 +106,7 @@ enum tuffaleen_answer {
     TUFFALEEN_BLOCK_RANGE = 0x0080,         /* blocks reach past 256 */
     TUFFALEEN_LOCK_NOT_CHANGEABLE = 0x010E, /* a boot lock is not changeable now */
     TUFFALEEN_BOOT_WRITE_LOCKED = 0x011E,   /* boot partition not Write Unlocked */
-    TUFFALEEN_NOT_A_FRAME_LINE = 0x0701,
+    TUFFALEEN_NOT_A_FRAME_LINE = 0x0701,    /* the answer at `out` says why: tuffaleen_line_fault */
     TUFFALEEN_UNKNOWN_KIND = 0x0702,
     TUFFALEEN_WRONG_FRAME_LENGTH = 0x0703,
     TUFFALEEN_KEY_UID_LENGTH = 0x0704,      /* KeyUID length 0 or above 16 */
@@ -124,6 +124,27 @@ enum tuffaleen_answer {
     TUFFALEEN_NOT_A_RESPONSE = 0x0716,      /* tuffaleen_discovery alone: data that is no discovery response */
     TUFFALEEN_NOT_A_MESSAGE = 0x0717,       /* no message of a load to this namespace and tag */
     TUFFALEEN_MESSAGE_KEY_UID = 0x0718      /* a message whose KeyUID has 0 bytes or more than 16 */
+};
+
+/*
+ * Why a line is no frame line; of several reasons that hold, the first of these is told. The number is
+ * TUFFALEEN_NOT_A_FRAME_LINE for each of them. Reason and place stand in the answer line at `out` alone, behind its
+ * first four digits: two digits of reason, then four of the place, its low byte first.
+ *
+ *   0701030000   a bad digit, the line's first character
+ *   0701030401   a bad digit at place 0x0104, that is line[260]
+ *   0701040000   an odd number of digits
+ *
+ * The place is an index into the line as it was handed over, so that a blank or a carriage return counts as any other
+ * character; it is that of the first bad digit, and 0 where the reason is another. To read them, with hex(at) for the
+ * byte whose high digit stands `at` characters behind the answer's start, and its low digit next to that: the reason
+ * is hex(4), the place hex(6) + 256 * hex(8). examples/bad-line.c does it so.
+ */
+enum tuffaleen_line_fault {
+    TUFFALEEN_LINE_EMPTY = 1,
+    TUFFALEEN_LINE_TOO_LONG = 2,  /* more than TUFFALEEN_LINE_BYTES characters, whatever they are */
+    TUFFALEEN_LINE_BAD_DIGIT = 3, /* a character other than 0-9 and A-F; small letters are such */
+    TUFFALEEN_LINE_ODD = 4        /* nothing but digits, and an odd number of them */
 };
 
 /*
@@ -192,7 +213,8 @@ uint16_t tuffaleen_start(uint8_t *image, size_t image_len, uint8_t *marks, size_
 /*
  * Answers one frame line, given without its line feed. Returns the answer's number; at `out` the same number stands
  * as four uppercase digits, for Get Features followed by the eight of its data, for discovery (the line 0C) by the 224
- * of its response, and a line feed. `*written` is how many bytes that is: 5, 13 or 229.
+ * of its response, for TUFFALEEN_NOT_A_FRAME_LINE by six that tell where the line is bad (tuffaleen_line_fault), and a
+ * line feed. `*written` is how many bytes that is: 5, 11, 13 or 229. The room asked is 13 or 229 all the same.
  *
  * Three answers refuse the call, not the line, and are looked for first and in this order. With these nothing is
  * written at `out`, and `*written` is 0:
@@ -209,8 +231,8 @@ uint16_t tuffaleen_line(uint8_t *image, size_t image_len, uint8_t *marks, size_t
 
 /*
  * Answers every line of a text, as tuffaleen_line would one after the other; the state is looked through once and
- * not for each line. Lines end with a line feed; a last line without one counts, an empty line is answered 0701,
- * and an empty text has no lines. The answers stand at `out` one after the other.
+ * not for each line. Lines end with a line feed; a last line without one counts, an empty line is answered
+ * 0701010000, and an empty text has no lines. The answers stand at `out` one after the other.
  *
  * Returns TUFFALEEN_DONE, whatever the single answers are, with `*lines` the lines answered and `*written` the bytes
  * written; or one of the three refusals of tuffaleen_line, with both 0. The output needs 229 bytes for each line that

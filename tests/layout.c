@@ -1,6 +1,6 @@
-/* The header against the library: every size, offset, lock state, answer and discovery field of include/tuffaleen.h,
- * by what the library does. The buffers are larger than the header says, so that a wrong number makes a failure and no
- * crash. */
+/* The header against the library: every size, offset, lock state, answer, fault of a line and discovery field of
+ * include/tuffaleen.h, by what the library does. The buffers are larger than the header says, so that a wrong number
+ * makes a failure and no crash. */
 #include <stdio.h>
 #include <string.h>
 #include <tuffaleen.h>
@@ -458,7 +458,7 @@ static const struct { const char *name; uint16_t number; const char *digits, *li
     {OF(TUFFALEEN_BLOCK_RANGE), "0080", IO("02", "FF", "01", "00")},
     {OF(TUFFALEEN_LOCK_NOT_CHANGEABLE), "010E", "0801000000"},
     {OF(TUFFALEEN_BOOT_WRITE_LOCKED), "011E", "0A00"},
-    {OF(TUFFALEEN_NOT_A_FRAME_LINE), "0701", "0b00"},
+    {OF(TUFFALEEN_NOT_A_FRAME_LINE), "0701030100", "0b00"},
     {OF(TUFFALEEN_UNKNOWN_KIND), "0702", "00"},
     {OF(TUFFALEEN_WRONG_FRAME_LENGTH), "0703", "0900"},
     {OF(TUFFALEEN_KEY_UID_LENGTH), "0704", "0301020000"},
@@ -472,6 +472,20 @@ static const struct { const char *name; uint16_t number; const char *digits, *li
     {OF(TUFFALEEN_OTHER_KEY), "070C", "0301020001AA" KEY_2},
     {OF(TUFFALEEN_NOT_A_MESSAGE), "0717", "0D010200"},
     {OF(TUFFALEEN_MESSAGE_KEY_UID), "0718", EMPTY_KEY_UID},
+};
+
+/* Lines of zeros that are no frame line; where `bad` is not -1, a letter stands at that place. */
+static const struct { const char *name; int fault, literal, len, bad, place; } faults[] = {
+    {OF(TUFFALEEN_LINE_EMPTY), 1, 0, -1, 0},
+    {OF(TUFFALEEN_LINE_TOO_LONG), 2, TUFFALEEN_LINE_BYTES + 1, -1, 0},
+    {OF(TUFFALEEN_LINE_TOO_LONG), 2, TUFFALEEN_LINE_BYTES + 1, 0, 0},
+    {OF(TUFFALEEN_LINE_TOO_LONG), 2, TUFFALEEN_LINE_BYTES + 2, TUFFALEEN_LINE_BYTES + 1, 0},
+    {OF(TUFFALEEN_LINE_BAD_DIGIT), 3, 1, 0, 0},
+    {OF(TUFFALEEN_LINE_BAD_DIGIT), 3, 2, 1, 1},
+    {OF(TUFFALEEN_LINE_BAD_DIGIT), 3, 262, 260, 260},
+    {OF(TUFFALEEN_LINE_BAD_DIGIT), 3, TUFFALEEN_LINE_BYTES, TUFFALEEN_LINE_BYTES - 1, TUFFALEEN_LINE_BYTES - 1},
+    {OF(TUFFALEEN_LINE_ODD), 4, 1, -1, 0},
+    {OF(TUFFALEEN_LINE_ODD), 4, TUFFALEEN_LINE_BYTES - 1, -1, 0},
 };
 
 /* The answers that refuse a call: for them the buffers are of other lengths, and no digits are written. */
@@ -491,11 +505,62 @@ static int check_line_answers(void)
         uint16_t answer = ask(answers[i].line);
         CHECK(answer == answers[i].number, "%s is %04X, the library answers %04X", answers[i].name, answers[i].number,
               answer);
-        CHECK(written == 5 && memcmp(out, answers[i].digits, 4) == 0 && out[4] == '\n',
-              "%s is written as %.4s, not %s", answers[i].name, (const char *)out, answers[i].digits);
+        size_t len = strlen(answers[i].digits);
+        CHECK(written == len + 1 && memcmp(out, answers[i].digits, len) == 0 && out[len] == '\n',
+              "%s is written as %.*s, not %s", answers[i].name, (int)len, (const char *)out, answers[i].digits);
         seen += i == 0 || strcmp(answers[i - 1].digits, answers[i].digits) < 0;
     }
     return seen;
+}
+
+/* The byte that two digits of an answer are. */
+static int answer_byte(size_t at)
+{
+    int high = out[at] <= '9' ? out[at] - '0' : out[at] - 'A' + 10;
+    int low = out[at + 1] <= '9' ? out[at + 1] - '0' : out[at + 1] - 'A' + 10;
+    return high << 4 | low;
+}
+
+/* Asks a line of zeros with a letter at a place, if that is not -1, and tells whether it is no frame line. */
+static int ask_bad(int len, int bad)
+{
+    static char line[ROOM];
+    memset(line, '0', ROOM);
+    if (bad >= 0)
+        line[bad] = 'G';
+    memset(out, UNTOUCHED, ROOM);
+    return ask_text(line, len) == TUFFALEEN_NOT_A_FRAME_LINE && written == 11 && out[10] == '\n' &&
+           out[11] == UNTOUCHED;
+}
+
+/* Tells how many names of the header were seen. */
+static int check_faults(void)
+{
+    int seen = 0;
+    start();
+    for (size_t i = 0; i < sizeof faults / sizeof *faults; i++) {
+        CHECK(ask_bad(faults[i].len, faults[i].bad), "a line of %d, bad at %d: %d bytes", faults[i].len, faults[i].bad,
+              (int)written);
+        int reason = answer_byte(4), place = answer_byte(6) | answer_byte(8) << 8;
+        CHECK(reason == faults[i].fault, "%s is %d, the library writes %d", faults[i].name, faults[i].fault, reason);
+        CHECK(reason == faults[i].literal && place == faults[i].place, "a line of %d, bad at %d: reason %d, place %d",
+              faults[i].len, faults[i].bad, reason, place);
+        seen += i == 0 || faults[i - 1].literal < faults[i].literal;
+    }
+    return seen;
+}
+
+/* Every place of the longest line, and of one that is odd. */
+static void check_places(void)
+{
+    start();
+    for (int len = TUFFALEEN_LINE_BYTES - 1; len <= TUFFALEEN_LINE_BYTES; len++) {
+        for (int bad = 0; bad < len; bad++) {
+            int told = ask_bad(len, bad), place = answer_byte(6) | answer_byte(8) << 8;
+            CHECK(told && answer_byte(4) == 3 && place == bad,
+                  "a line of %d, bad at %d: place %d", len, bad, place);
+        }
+    }
 }
 
 static int check_call_answers(void)
@@ -664,11 +729,8 @@ static void check_own_response(void)
     size_t len = 0;
     start();
     ask_in(TUFFALEEN_DISCOVERY_BYTES, "0C", 2);
-    for (size_t at = 4; at + 1 < written; at += 2) {
-        int high = out[at] <= '9' ? out[at] - '0' : out[at] - 'A' + 10;
-        int low = out[at + 1] <= '9' ? out[at + 1] - '0' : out[at + 1] - 'A' + 10;
-        response[len++] = high << 4 | low;
-    }
+    for (size_t at = 4; at + 1 < written; at += 2)
+        response[len++] = answer_byte(at);
     await_found(1, 1);
     for (size_t i = 0; i < sizeof own_fields / sizeof *own_fields; i++)
         await_number(own_fields[i].place, own_fields[i].number);
@@ -871,7 +933,7 @@ static void check_all_features(void)
 
 int main(void)
 {
-    int slots = 0, written_marks = 0, numbers = 0, names = 0;
+    int slots = 0, written_marks = 0, numbers = 0, names = 0, reasons = 0;
     check_sizes();
     if (failures == 0) {
         check_line_without_message();
@@ -888,11 +950,13 @@ int main(void)
         check_own_response();
         names = check_fields();
         check_all_features();
+        reasons = check_faults();
+        check_places();
         numbers = check_line_answers() + check_call_answers() + check_no_responses();
     }
     check_version();
     if (failures == 0)
-        printf("layout: %d answers, %d fields, %d slots, %d marks as the header says\n", numbers, names, slots,
-               written_marks);
+        printf("layout: %d answers, %d faults, %d fields, %d slots, %d marks as the header says\n", numbers, reasons,
+               names, slots, written_marks);
     return failures != 0;
 }

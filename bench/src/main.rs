@@ -32,6 +32,7 @@ fn main() {
     let of_all = print("frames of all kinds, one session", sessions(&all_kinds));
     let of_messages = print("loads by message, half damaged, one session", sessions(&messages));
     print_messages();
+    print_bad_lines();
 
     println!();
     judge(&format!("{FRAMES} mixed frames"), of_first);
@@ -83,6 +84,17 @@ fn print_messages() {
     for (at, what) in [(0, "first tag"), (259, "namespace"), (363, "last type")] {
         let what = format!("message refused for its {what}");
         print(&what, sessions(&series::refused_messages(at)));
+    }
+}
+
+fn print_bad_lines() {
+    for (digits, bad, what) in [
+        (130, Some(0), "the first of 130 digits bad"),
+        (130, Some(129), "the last of 130 digits bad"),
+        (1024, Some(1023), "the last of 1024 digits bad"),
+        (131, None, "131 digits"),
+    ] {
+        print(&format!("no frame line: {what}"), sessions(&series::bad_lines(digits, bad)));
     }
 }
 

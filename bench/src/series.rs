@@ -77,6 +77,15 @@ pub fn four_keys(all_managed: bool, line: &str) -> Course {
     }
 }
 
+/// One line again and again that is no frame line: zeros, with a letter among them or odd in number.
+pub fn bad_lines(digits: usize, bad: Option<usize>) -> Course {
+    let mut line = "0".repeat(digits);
+    if let Some(place) = bad {
+        line.replace_range(place..=place, "G");
+    }
+    course([], &[line])
+}
+
 /// One write again and again.
 pub fn writes(blocks: usize) -> Course {
     course(recorded(), &[write(1, 0, 0, blocks as u16 - 1)])

@@ -7,7 +7,7 @@ use model::numbers::{MARK, NAMESPACES, ROOM, SLOT};
 use model::{kmip, status};
 
 use crate::arena::{Arena, Lengths, Lent};
-use crate::hostile::{from_digits, to_digits};
+use crate::hostile::{from_digits, to_digits, DIGITS};
 use crate::messages::FRAME_HEAD;
 use crate::oracle::{Function, Outcome};
 use crate::places::PLACES;
@@ -42,6 +42,18 @@ pub enum Rule {
     MessageTag,
     /// Padding is not looked at.
     Padding,
+    /// 07 01 says no reason, as 01 had it.
+    NoReason,
+    /// The place is that of the last bad digit.
+    BadDigitLast,
+    /// A bad digit is told of a line that is too long.
+    BadDigitFirst,
+    /// An odd line is told before a bad digit.
+    OddFirst,
+    /// The place's high byte comes first.
+    PlaceHighFirst,
+    /// Of the place the low byte counts.
+    PlaceByte,
 }
 
 /// Where a message has the last byte of its minor version.
@@ -69,6 +81,12 @@ impl Rule {
             "message-room" => Rule::MessageRoom,
             "message-tag" => Rule::MessageTag,
             "padding" => Rule::Padding,
+            "no-reason" => Rule::NoReason,
+            "bad-digit-last" => Rule::BadDigitLast,
+            "bad-digit-first" => Rule::BadDigitFirst,
+            "odd-first" => Rule::OddFirst,
+            "place-high-first" => Rule::PlaceHighFirst,
+            "place-byte" => Rule::PlaceByte,
             _ => return None,
         })
     }
@@ -105,8 +123,31 @@ impl Rule {
             Rule::Padding if met(status::MESSAGE) => {
                 outcome.number = other_frame(arena.lend(lengths), zero_padding);
             }
+            Rule::NoReason if met(status::LINE) => outcome.written = 5,
+            _ if met(status::LINE) => self.spoil_fault(arena.lend(lengths)),
             _ => {}
         }
+    }
+
+    /// Makes the model's answer 07 01 to a line with a bad digit that of a drive with the wrong rule.
+    fn spoil_fault(self, Lent { text, out, .. }: Lent) {
+        let is_bad = |byte: &u8| !DIGITS.contains(byte);
+        let places = (text.iter().position(is_bad), text.iter().rposition(is_bad));
+        let (Some(first), Some(last)) = places else { return };
+        let [low, high] = (first as u16).to_le_bytes();
+        let [last_low, last_high] = (last as u16).to_le_bytes();
+        let told = match self {
+            Rule::BadDigitFirst => [3, low, high],
+            _ if out.starts_with(b"070102") => return,
+            Rule::BadDigitLast => [3, last_low, last_high],
+            Rule::OddFirst if text.len() % 2 == 1 => [4, 0, 0],
+            Rule::PlaceHighFirst => [3, high, low],
+            Rule::PlaceByte => [3, low, 0],
+            _ => return,
+        };
+        let mut digits = Vec::new();
+        to_digits(&told, &mut digits);
+        out[4..10].copy_from_slice(&digits);
     }
 
     /// Data in which the model finds what a reader with the wrong rule finds in this.

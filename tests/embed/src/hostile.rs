@@ -8,7 +8,7 @@ use model::ttlv::Node;
 use crate::messages::others;
 use crate::universe::{key, key_uid};
 
-const DIGITS: &[u8] = b"0123456789ABCDEF";
+pub const DIGITS: &[u8] = b"0123456789ABCDEF";
 /// The longest line that is made here.
 pub const LONGEST: usize = 4 * FRAME;
 
@@ -26,7 +26,17 @@ pub fn from_digits(digits: &[u8]) -> Option<Vec<u8>> {
     digits.chunks(2).map(byte).collect()
 }
 
+/// At one place, or now and then at two, as far as something is left of the line.
 pub fn damage_line(rng: &mut Rng, line: &mut Vec<u8>) {
+    damage_once(rng, line);
+    if line.len() > 1 && rng.once_in(4) {
+        damage_once(rng, line);
+        line.truncate(LONGEST);
+    }
+}
+
+/// The line has two digits or more.
+fn damage_once(rng: &mut Rng, line: &mut Vec<u8>) {
     let at = rng.below(line.len());
     match rng.below(13) {
         0 => line[at] = rng.pick(DIGITS),

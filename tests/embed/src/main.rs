@@ -9,6 +9,7 @@ use std::time::Instant;
 
 mod arena;
 mod broken;
+mod faults;
 mod host;
 mod hostile;
 mod imports;
@@ -39,7 +40,8 @@ use walk::{LineWalk, TextWalk};
 
 const USAGE: &str = "usage: embed CALLS SEED [--broken RULE]
 RULE: number, written, lines, image, marks, text, output, guard, room, first-eight, first, short,
-fields, behind, data, message, message-room, message-tag, padding";
+fields, behind, data, message, message-room, message-tag, padding, no-reason, bad-digit-last,
+bad-digit-first, odd-first, place-high-first, place-byte";
 
 /// With fewer calls a number that is not met says nothing.
 const ENOUGH: u64 = 200_000;

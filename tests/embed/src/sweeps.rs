@@ -1,6 +1,7 @@
 //! What can be gone through from end to end: every length near a right one, every output length,
 //! every value of the bytes that an image begins with, every byte of an image, every value of every
-//! byte of a mark, every value of every byte of a frame, and frames of every length.
+//! byte of a mark, every value of every byte of a frame, and frames of every length. Lines with a
+//! bad digit are in `faults`.
 
 use embed::Rng;
 use model::lines::*;
@@ -35,15 +36,15 @@ const TEXTS: [&str; 10] = [
 ];
 
 pub struct Sweeps {
-    pair: Pair,
+    pub pair: Pair,
     /// With room for image and store of twice their lengths.
     wide: Pair,
     rng: Rng,
     /// Where most sweeps start from.
-    used: State,
+    pub used: State,
 }
 
-type Done = Result<(), Difference>;
+pub type Done = Result<(), Difference>;
 
 impl Sweeps {
     pub fn new(seed: u64, broken: Option<Rule>) -> Sweeps {
@@ -67,7 +68,8 @@ impl Sweeps {
         self.marks()?;
         self.frames()?;
         self.digits()?;
-        self.lines_of_every_length()
+        self.lines_of_every_length()?;
+        self.faults()
     }
 
     /// A slot has an odd length, so of two neighbours each byte is changed in both ways.
@@ -117,7 +119,7 @@ impl Sweeps {
     }
 
     fn outputs(&mut self) -> Done {
-        for line in ["09", "0B00", "", "010102", "0G", "0C", "0c", "0C00", "0D", "0E"] {
+        for line in ["09", "0B00", "", "010102", "0G", "0B0", "0C", "0c", "0C00", "0D", "0E"] {
             for out in 0..DISCOVERY_ROOM + 2 * NEAR {
                 self.pair.restore(&self.used);
                 say(&mut self.pair, line, out)?;
@@ -209,7 +211,7 @@ impl Sweeps {
     }
 }
 
-fn say(pair: &mut Pair, line: impl AsRef<[u8]>, out: usize) -> Done {
+pub fn say(pair: &mut Pair, line: impl AsRef<[u8]>, out: usize) -> Done {
     let line = line.as_ref();
     pair.say(line);
     pair.call(Function::Line, Lengths::right(line.len(), out)).map(|_| ())

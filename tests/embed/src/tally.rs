@@ -82,15 +82,24 @@ const EVENTS: [&str; 12] = [
     "message, 408 bytes written",
 ];
 
+/// Why a line is no frame line, by the reasons of 07 01 in their order; the last is besides counted as
+/// a bad digit.
+const FAULTS: [&str; 5] = ["empty", "too long", "bad digit", "odd", "bad digit past place 255"];
+const FAR: usize = 4;
+const FAULT_COLUMNS: [&str; 2] = [COLUMNS[Function::Line as usize], COLUMNS[IN_SESSIONS]];
+
 pub struct Tally {
     counts: Vec<[u64; COLUMNS.len()]>,
     events: [u64; EVENTS.len()],
+    faults: [[u64; FAULT_COLUMNS.len()]; FAULTS.len()],
     pub calls: u64,
 }
 
 impl Tally {
     pub fn new() -> Tally {
-        Tally { counts: vec![[0; COLUMNS.len()]; LIMIT], events: [0; EVENTS.len()], calls: 0 }
+        let counts = vec![[0; COLUMNS.len()]; LIMIT];
+        let faults = [[0; FAULT_COLUMNS.len()]; FAULTS.len()];
+        Tally { counts, events: [0; EVENTS.len()], faults, calls: 0 }
     }
 
     pub fn call(&mut self, function: Function, number: u16) {
@@ -117,9 +126,18 @@ impl Tally {
         self.events[event as usize] += 1;
     }
 
+    /// An answer 07 01: its reason, and whether the place's high byte, which is the last, is zero.
+    fn fault(&mut self, answer: &[u8], column: usize) {
+        self.faults[usize::from(answer[5] - b'1')][column] += 1;
+        if answer[8..10] != *b"00" {
+            self.faults[FAR][column] += 1;
+        }
+    }
+
     /// A line, what it was answered, and the output that it had.
     pub fn line(&mut self, line: &[u8], answer: &[u8], out: usize) {
         match answer.len() {
+            _ if answer.starts_with(b"0701") => self.fault(answer, 0),
             0 if line == b"0C" && (ROOM..DISCOVERY_ROOM).contains(&out) => {
                 self.event(Event::NoRoom)
             }
@@ -139,6 +157,7 @@ impl Tally {
             let number = answer[..4].iter().fold(0, |number, byte| number * 16 + digit(byte));
             self.counts[number][IN_SESSIONS] += 1;
             match answer.len() {
+                _ if answer.starts_with(b"0701") => self.fault(answer, 1),
                 DISCOVERY_ROOM => self.event(Event::AnsweredInSession),
                 5 if line.starts_with(b"0C") => self.event(Event::RefusedInSession),
                 5 if line.starts_with(b"0D") && answer == TAKEN => {
@@ -155,6 +174,8 @@ impl Tally {
             sums.iter_mut().zip(counts).for_each(|(sum, count)| *sum += count);
         }
         self.events.iter_mut().zip(&other.events).for_each(|(sum, count)| *sum += count);
+        let faults = self.faults.iter_mut().flatten().zip(other.faults.iter().flatten());
+        faults.for_each(|(sum, count)| *sum += count);
     }
 
     pub fn print(&self) {
@@ -168,9 +189,13 @@ impl Tally {
         for (event, count) in EVENTS.iter().zip(self.events) {
             println!("{event:<48}{count:>14}");
         }
+        println!("{:<48}{}", "0701", FAULT_COLUMNS.map(|column| format!("{column:>14}")).concat());
+        for (fault, counts) in FAULTS.iter().zip(self.faults) {
+            println!("{fault:<48}{}", counts.map(|count| format!("{count:>14}")).concat());
+        }
     }
 
-    /// The numbers that were never met where they can be, and the events that never came.
+    /// The numbers and faults that were never met where they can be, and the events that never came.
     pub fn missed(&self) -> Vec<String> {
         let start = [DONE, STORE, UNSOUND].map(|number| (number, Function::Start as usize));
         let line =
@@ -186,6 +211,14 @@ impl Tally {
             .filter(|&(number, column)| self.counts[usize::from(number)][column] == 0)
             .map(|(number, column)| format!("{number:04X} ({})", COLUMNS[column]));
         let events = EVENTS.iter().zip(self.events).filter(|&(_, count)| count == 0);
-        numbers.chain(events.map(|(event, _)| event.to_string())).collect()
+        let events = events.map(|(event, _)| event.to_string());
+        numbers.chain(events).chain(self.missed_faults()).collect()
+    }
+
+    fn missed_faults(&self) -> impl Iterator<Item = String> + '_ {
+        FAULTS.iter().zip(&self.faults).flat_map(|(fault, counts)| {
+            let missed = FAULT_COLUMNS.iter().zip(counts).filter(|&(_, &count)| count == 0);
+            missed.map(move |(column, _)| format!("0701, {fault} ({column})"))
+        })
     }
 }

@@ -1,5 +1,5 @@
-//! From a line's digits to a frame: 07 01, 07 02, the lengths 07 03 and 07 04, and what a message
-//! is refused with, 07 17 and 07 18.
+//! From a line's digits to a frame: 07 01 with its reason and place, 07 02, the lengths 07 03 and
+//! 07 04, and what a message is refused with, 07 17 and 07 18.
 
 use crate::kmip;
 use crate::numbers::{COMMAND, FRAME, KEY, KEY_UID};
@@ -36,8 +36,20 @@ pub enum Frame<'a> {
     Discovery,
 }
 
+/// Why a line is no frame line, in the order in which it is looked for.
+#[derive(Clone, Copy, Debug, PartialEq, Eq)]
+pub enum Fault {
+    Empty,
+    TooLong,
+    /// The place of the first one, counted from 0.
+    BadDigit(u16),
+    Odd,
+}
+
 pub const DIGITS: &[u8; 16] = b"0123456789ABCDEF";
 const BAD: u8 = 0xFF;
+/// The digits of the longest line.
+const MOST_DIGITS: usize = 2 * FRAME;
 
 const VALUES: [u8; 256] = {
     let mut values = [BAD; 256];
@@ -49,9 +61,10 @@ const VALUES: [u8; 256] = {
     values
 };
 
-pub fn decode<'b>(line: &[u8], buffer: &'b mut [u8; FRAME]) -> Result<&'b [u8], u16> {
-    if !(2..=2 * FRAME).contains(&line.len()) || line.len() % 2 == 1 {
-        return Err(status::LINE);
+/// A good line is gone over once, and only a bad one again for its fault.
+pub fn decode<'b>(line: &[u8], buffer: &'b mut [u8; FRAME]) -> Result<&'b [u8], Fault> {
+    if !(2..=MOST_DIGITS).contains(&line.len()) || line.len() % 2 == 1 {
+        return Err(Fault::of(line));
     }
     let bytes = &mut buffer[..line.len() / 2];
     let mut seen = 0;
@@ -61,9 +74,37 @@ pub fn decode<'b>(line: &[u8], buffer: &'b mut [u8; FRAME]) -> Result<&'b [u8], 
         *byte = high << 4 | low;
     }
     if seen == BAD {
-        return Err(status::LINE);
+        return Err(Fault::of(line));
     }
     Ok(bytes)
+}
+
+impl Fault {
+    /// What is wrong with a line that is no frame line: where nothing else is, it is odd.
+    #[cold]
+    fn of(line: &[u8]) -> Fault {
+        match line.len() {
+            0 => return Fault::Empty,
+            1..=MOST_DIGITS => {}
+            _ => return Fault::TooLong,
+        }
+        match line.iter().position(|&digit| VALUES[usize::from(digit)] == BAD) {
+            Some(place) => Fault::BadDigit(place as u16),
+            None => Fault::Odd,
+        }
+    }
+
+    /// What the answer says behind 07 01: the reason, then the place, or 0 where there is none.
+    pub fn data(self) -> [u8; 3] {
+        let (reason, place) = match self {
+            Fault::Empty => (1, 0),
+            Fault::TooLong => (2, 0),
+            Fault::BadDigit(place) => (3, place),
+            Fault::Odd => (4, 0),
+        };
+        let [low, high] = place.to_le_bytes();
+        [reason, low, high]
+    }
 }
 
 pub fn parse(bytes: &[u8]) -> Result<Frame<'_>, u16> {

@@ -84,8 +84,11 @@ impl Drive {
         buffer: &mut [u8; FRAME],
         out: &mut [u8],
     ) -> (u16, usize) {
-        let frame = decode(line, buffer).and_then(parse);
-        match frame.and_then(|frame| self.obey(marks, frame)) {
+        let bytes = match decode(line, buffer) {
+            Ok(bytes) => bytes,
+            Err(fault) => return (status::LINE, write_line(out, status::LINE, fault.data())),
+        };
+        match parse(bytes).and_then(|frame| self.obey(marks, frame)) {
             Ok(Data::Nothing) => (status::DONE, write_line(out, status::DONE, [])),
             Ok(Data::Locks(dword)) => {
                 (status::DONE, write_line(out, status::DONE, dword.to_le_bytes()))

@@ -11,6 +11,7 @@ pub const BLOCK_RANGE: u16 = 0x0080;
 pub const LOCK_FIXED: u16 = 0x010E;
 pub const WRITE_LOCKED: u16 = 0x011E;
 
+/// The answer says more, `frame::Fault`.
 pub const LINE: u16 = 0x0701;
 pub const KIND: u16 = 0x0702;
 pub const LENGTH: u16 = 0x0703;

@@ -83,9 +83,9 @@ fn checks_in_order() {
     let mut bench = managed();
     bench.accept(load(1, 0, "AA", 0x11));
     // No frame line, whatever the kind and the message.
-    bench.refuse("0D0", "0701");
-    bench.refuse(message_load(5, 0, U17, 0x11) + "0", "0701");
-    bench.refuse(message_load(1, 1, "AB", 0x11).to_lowercase(), "0701");
+    bench.refuse("0D0", "0701040000");
+    bench.refuse(message_load(5, 0, U17, 0x11) + "0", "0701040000");
+    bench.refuse(message_load(1, 1, "AB", 0x11).to_lowercase(), "0701030100");
     // Under 4 bytes.
     for line in ["0D", "0D05", "0D0500", "0D0100"] {
         bench.refuse(line, "0703");
@@ -121,10 +121,10 @@ fn frames_of_every_length() {
             404 => {}
             _ => bench.refuse(&line[..2 * bytes], "0717"),
         }
-        bench.refuse(&line[..2 * bytes - 1], "0701");
+        bench.refuse(&line[..2 * bytes - 1], "0701040000");
     }
-    bench.refuse(&line[..1025], "0701");
-    bench.refuse(&line[..1026], "0701");
+    bench.refuse(&line[..1025], "0701020000");
+    bench.refuse(&line[..1026], "0701020000");
     bench.accept(&line[..2 * 404]);
 }
 
@@ -139,9 +139,9 @@ fn the_longest_message() {
     assert_eq!(longest.len(), 504);
     assert_eq!(answer(&longest), "0000");
     assert_eq!(answer(&[&longest[..], &[0; 4]].concat()), "0717");
-    assert_eq!(answer(&[&longest[..], &[0; 5]].concat()), "0701");
+    assert_eq!(answer(&[&longest[..], &[0; 5]].concat()), "0701020000");
     assert_eq!(with_filling(97).len(), 512);
-    assert_eq!(answer(&with_filling(97)), "0701");
+    assert_eq!(answer(&with_filling(97)), "0701020000");
 }
 
 #[test]
@@ -187,7 +187,7 @@ fn changes_of_items() {
     for (item, message) in of(Change::Double) {
         let too_long = [MESSAGE, 6, 8, ATTRIBUTES].contains(&item);
         assert_eq!(message.len() > 508, too_long, "{item}");
-        assert_eq!(answer(&message), if too_long { "0701" } else { "0000" }, "{item}");
+        assert_eq!(answer(&message), if too_long { "0701020000" } else { "0000" }, "{item}");
     }
     let free = [12, 13, 14, 16, 17, 18, 21, 22, 26];
     assert_eq!(of(Change::Swap).count(), 16);

@@ -1,4 +1,4 @@
-//! Every row of the refusal table, each refusal seen to change nothing.
+//! Every row of the refusal table but 07 01 (`line.rs`), each refusal seen to change nothing.
 
 mod bench;
 
@@ -130,29 +130,13 @@ fn boot_locks_010e_and_011e() {
 }
 
 #[test]
-fn not_a_frame_line_0701() {
-    let mut bench = Bench::new();
-    for line in ["", "0", "090", "0a00", " 09", "09\r", "09\n", "0G", "é"] {
-        bench.refuse(line, "0701");
-    }
-    for digits in (2..=1024).step_by(2) {
-        bench.refuse("0".repeat(digits - 1), "0701");
-        bench.refuse("0".repeat(digits), "0702");
-        bench.refuse("0".repeat(digits - 1) + "g", "0701");
-    }
-    for digits in [1025, 1026, 1027, 1028, 2048, 2050, 4096] {
-        bench.refuse("0".repeat(digits), "0701");
-    }
-}
-
-#[test]
 fn kind_0702() {
     let mut bench = Bench::new();
     for kind in (0..=255).filter(|kind| !(1..=13).contains(kind)) {
         for bytes in [1, 70, 71, 511, 512] {
             bench.refuse(hex(&vec![kind; bytes]), "0702");
         }
-        bench.refuse(hex(&[kind; 513]), "0701");
+        bench.refuse(hex(&[kind; 513]), "0701020000");
     }
 }
 
@@ -169,7 +153,7 @@ fn length_0703() {
                 bench.refuse(&line[..bytes * 2], "0703");
             }
         }
-        bench.refuse(&line[..2 * 513], "0701");
+        bench.refuse(&line[..2 * 513], "0701020000");
     }
 }
 
@@ -187,7 +171,7 @@ fn key_uid_length_0704() {
                 let filling = "00".repeat(bytes - head.len() / 2 - 1);
                 bench.refuse(format!("{head}{length:02X}{filling}"), "0704");
             }
-            bench.refuse(format!("{head}{length:02X}{}", "00".repeat(512)), "0701");
+            bench.refuse(format!("{head}{length:02X}{}", "00".repeat(512)), "0701020000");
         }
     }
     bench.refuse(replace(1, 0, &"AA".repeat(16), &"AA".repeat(17), 0x22), "0704");

@@ -21,6 +21,8 @@ mod clear;
 mod dice;
 #[path = "sessions/discovery.rs"]
 mod discovery;
+#[path = "sessions/faults.rs"]
+mod faults;
 #[path = "sessions/folder.rs"]
 mod folder;
 #[path = "sessions/forms.rs"]
@@ -41,6 +43,8 @@ mod marks;
 mod message;
 #[path = "sessions/message_items.rs"]
 mod message_items;
+#[path = "sessions/misplaced.rs"]
+mod misplaced;
 #[path = "sessions/misread.rs"]
 mod misread;
 #[path = "sessions/order.rs"]
@@ -87,6 +91,7 @@ fn by_hand() -> Folder {
     let mut folder = Folder::default();
     paper::add(&mut folder);
     forms::add(&mut folder);
+    faults::add(&mut folder);
     lengths::add(&mut folder);
     manage::add(&mut folder);
     load::add(&mut folder);

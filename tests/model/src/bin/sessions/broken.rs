@@ -8,6 +8,7 @@ use model::numbers::{
 };
 use model::{kmip, room, status, Drive};
 
+use crate::misplaced::fault_told;
 use crate::misread::misread;
 
 #[derive(Clone, Copy, PartialEq, Eq)]
@@ -78,9 +79,27 @@ pub enum Rule {
     MessageFirst,
     /// A message's KeyUID is judged before all else in it.
     MessageOrder,
+    /// 07 01 says no reason, as 01 had it.
+    NoReason,
+    /// 07 01 says its reason and no place.
+    ReasonOnly,
+    /// The place is that of the last bad digit.
+    BadDigitLast,
+    /// A bad digit is told of a line that is too long.
+    BadDigitFirst,
+    /// An odd line is told before a bad digit.
+    OddFirst,
+    /// An odd line's place is that of its last digit.
+    OddPlace,
+    /// The place's high byte comes first.
+    PlaceHighFirst,
+    /// The place is counted from 1.
+    PlaceFromOne,
+    /// Of the place the low byte counts.
+    PlaceByte,
 }
 
-const NAMES: [(&str, Rule); 33] = [
+const NAMES: [(&str, Rule); 42] = [
     ("small-letters", Rule::SmallLetters),
     ("last-line", Rule::LastLine),
     ("input", Rule::Input),
@@ -114,6 +133,15 @@ const NAMES: [(&str, Rule); 33] = [
     ("message-uid", Rule::MessageUid),
     ("message-first", Rule::MessageFirst),
     ("message-order", Rule::MessageOrder),
+    ("no-reason", Rule::NoReason),
+    ("reason-only", Rule::ReasonOnly),
+    ("bad-digit-last", Rule::BadDigitLast),
+    ("bad-digit-first", Rule::BadDigitFirst),
+    ("odd-first", Rule::OddFirst),
+    ("odd-place", Rule::OddPlace),
+    ("place-high-first", Rule::PlaceHighFirst),
+    ("place-from-one", Rule::PlaceFromOne),
+    ("place-byte", Rule::PlaceByte),
 ];
 
 /// The slots of 01, in the pool and at most in a namespace.
@@ -194,7 +222,7 @@ impl Bench {
                 let (number, out) = self.line(&[b"0702", &line[4..]].concat());
                 (number == status::WRONG_KEY).then_some(out)
             }
-            Rule::MessageLength if line.len() > 2 * REPLACE => Some(b"0701\n".to_vec()),
+            Rule::MessageLength if line.len() > 2 * REPLACE => Some(b"0701020000\n".to_vec()),
             Rule::MessagePadding
             | Rule::MessageDepth
             | Rule::MessageNamespace
@@ -261,6 +289,7 @@ impl Bench {
             (Rule::MessageOrder, b"0D", status::MESSAGE) if bad_key_uid(&message_of(line)?.2) => {
                 Some(b"0718\n".to_vec())
             }
+            (_, _, status::LINE) => fault_told(rule, line, out),
             _ => None,
         }
     }
@@ -336,9 +365,12 @@ fn low_tag(kind: &[u8], line: &[u8]) -> Vec<u8> {
     [&line[..at], b"00", &line[at + 2..]].concat()
 }
 
+pub fn is_digit(byte: &u8) -> bool {
+    matches!(byte, b'0'..=b'9' | b'A'..=b'F')
+}
+
 /// Namespace, tag and message of a line of kind 0D, if it is a frame of at least 4 bytes.
 fn message_of(line: &[u8]) -> Option<(u8, u16, Vec<u8>)> {
-    let is_digit = |digit: &u8| matches!(digit, b'0'..=b'9' | b'A'..=b'F');
     if line.len() % 2 == 1 || line.len() > 2 * FRAME || !line.iter().all(is_digit) {
         return None;
     }

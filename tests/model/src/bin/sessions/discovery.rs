@@ -99,22 +99,23 @@ fn nearly_its_line(folder: &mut Folder) {
         ("0C01", "0703"),
         ("0C0C", "0703"),
         ("0C0000", "0703"),
-        ("0C0", "0701"),
-        ("C", "0701"),
-        ("0c", "0701"),
-        ("0c00", "0701"),
-        (" 0C", "0701"),
-        ("0C ", "0701"),
-        ("0C\r", "0701"),
-        ("0C\t", "0701"),
-        ("0x0C", "0701"),
+        ("0C0", "0701040000"),
+        ("C", "0701040000"),
+        ("0c", "0701030100"),
+        ("0c00", "0701030100"),
+        (" 0C", "0701030000"),
+        ("0C ", "0701030200"),
+        ("0C\r", "0701030200"),
+        ("0C\t", "0701030200"),
+        ("0x0C", "0701030100"),
         ("C0", "0702"),
         ("0D", "0703"),
         ("0D00", "0703"),
         ("000C", "0702"),
     ];
     let lines = lines.map(|(line, answer)| (line.to_string(), answer));
-    let long = [("0C".repeat(71), "0703"), ("0C".repeat(512), "0703"), ("0C".repeat(513), "0701")];
+    let long = [(71, "0703"), (512, "0703"), (513, "0701020000")];
+    let long = long.map(|(times, answer)| ("0C".repeat(times), answer));
     let right = [(discovery(), answer())];
     folder.add("discovery-nearly-its-line", lines.into_iter().chain(long).chain(right));
 }
@@ -125,9 +126,10 @@ fn line_ends(folder: &mut Folder) {
     folder.raw(
         "discovery-last-without-line-feed",
         "\n0C\n\n0C",
-        format!("0701\n{told}0701\n{told}"),
+        format!("0701010000\n{told}0701010000\n{told}"),
     );
-    folder.raw("discovery-carriage-return", "0C\r\n0C\n\r0C\r", format!("0701\n{told}0701\n"));
+    let answers = format!("0701030200\n{told}0701030000\n");
+    folder.raw("discovery-carriage-return", "0C\r\n0C\n\r0C\r", answers);
 }
 
 /// The program's output, and what two lines ask of it.
@@ -141,7 +143,9 @@ fn in_room(folder: &mut Folder, name: impl Into<String>, text: String, asked: us
         "0C" => answer(),
         "09" => "000012000000",
         "0C00" => "0703",
-        _ => "0701",
+        "0c" => "0701030100",
+        "0" => "0701040000",
+        _ => "0701010000",
     };
     let answers: String = text.lines().map(|line| answer(line).to_string() + "\n").collect();
     let printed = if asked <= PROGRAM { answers } else { "070F\n".to_string() };

@@ -108,8 +108,8 @@ fn level_0(folder: &mut Folder) {
 
 /// Every cut of a line at a digit: an odd one is no frame line, an even one too short a frame.
 fn cut_at_digits(line: &str, cuts: std::ops::Range<usize>) -> Lines {
-    cuts.map(|digits| (line[..digits].to_string(), if digits % 2 == 1 { "0701" } else { "0703" }))
-        .collect()
+    let answer = |digits| if digits % 2 == 1 { "0701040000" } else { "0703" };
+    cuts.map(|digits| (line[..digits].to_string(), answer(digits))).collect()
 }
 
 fn load_truncated(folder: &mut Folder) {

@@ -114,7 +114,7 @@ fn few_bytes_and_many(folder: &mut Folder) {
             ("0D01000042".to_string(), "0717"),
             ("0D0100004200780100000000".to_string(), "0717"),
             (format!("{longest}00000000"), "0717"),
-            (format!("{longest}0000000000"), "0701"),
+            (format!("{longest}0000000000"), "0701020000"),
             (clear_one(1, 0), "070A"),
             (longest, "0000"),
             (clear_one(1, 0), "0000"),
@@ -282,7 +282,7 @@ fn order_of_refusals(folder: &mut Folder) {
     folder.add(
         "order-message-0717-before-0718-before-000b",
         [
-            ("0D0".to_string(), "0701"),
+            ("0D0".to_string(), "0701040000"),
             ("0D0500".to_string(), "0703"),
             ("0D050000".to_string(), "0717"),
             (message_frame(5, 0, &short_key), "0717"),
@@ -375,9 +375,9 @@ fn digits(folder: &mut Folder) {
         "message-digits",
         [
             (manage(1, 1), "0000"),
-            (good.to_lowercase(), "0701"),
-            (good[..807].to_string(), "0701"),
-            (good[..806].to_string() + "aB", "0701"),
+            (good.to_lowercase(), "0701030100"),
+            (good[..807].to_string(), "0701040000"),
+            (good[..806].to_string() + "aB", "0701032603"),
             (clear_one(1, 0), "070A"),
             (good, "0000"),
         ],

@@ -69,7 +69,7 @@ fn left_out(folder: &mut Folder) {
 fn twice(folder: &mut Folder) {
     let step = |(_, line): (usize, String)| match line.len() {
         ..=1024 => accepted(line),
-        _ => vec![(line, "0701")],
+        _ => vec![(line, "0701020000")],
     };
     add_steps(folder, "message-item-twice", each(Change::Double).map(step));
 }

@@ -1,4 +1,5 @@
-//! How often each number is the answer in the sessions from seeds, and how often a discovery response.
+//! How often each number is the answer in the sessions from seeds, 07 01 by its reasons, and how often a discovery
+//! response.
 
 use std::collections::BTreeMap;
 
@@ -10,8 +11,11 @@ const LEAST: usize = 20;
 
 const RESPONSES: &str = "responses";
 
-/// All that the program can print but 00 00.
-const REFUSALS: [u16; 23] = [
+/// 07 01 and its reason.
+const FAULTS: [&str; 4] = ["070101", "070102", "070103", "070104"];
+
+/// All else that the program can print but 00 00.
+const REFUSALS: [u16; 22] = [
     OPCODE,
     FIELD,
     NAMESPACE,
@@ -20,7 +24,6 @@ const REFUSALS: [u16; 23] = [
     BLOCK_RANGE,
     LOCK_FIXED,
     WRITE_LOCKED,
-    LINE,
     KIND,
     LENGTH,
     KEY_UID_LENGTH,
@@ -43,8 +46,11 @@ pub struct Tally(BTreeMap<String, usize>);
 impl Tally {
     pub fn add(&mut self, printed: &[u8]) {
         for answer in String::from_utf8_lossy(printed).lines() {
-            let is_response = answer.len() + 1 == DISCOVERY_ROOM;
-            let name = if is_response { RESPONSES } else { &answer[..4] };
+            let name = match answer {
+                _ if answer.len() + 1 == DISCOVERY_ROOM => RESPONSES,
+                _ if answer.starts_with("0701") => &answer[..6],
+                _ => &answer[..4],
+            };
             *self.0.entry(name.to_string()).or_default() += 1;
         }
     }
@@ -60,6 +66,7 @@ impl Tally {
         REFUSALS
             .map(|number| format!("{number:04X}"))
             .into_iter()
+            .chain(FAULTS.map(str::to_string))
             .chain([RESPONSES.to_string()])
             .filter(|n| times(n) < LEAST)
             .collect()

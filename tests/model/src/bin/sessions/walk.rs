@@ -1,5 +1,5 @@
 //! What a host says line by line that has the drive's state before its eyes: mostly what the drive will do, now and
-//! then a number at or past its limit, and one line in five broken at one place.
+//! then a number at or past its limit, and one line in five broken at one place, some of these at a second one.
 
 use model::lines::*;
 use model::numbers::{
@@ -11,6 +11,10 @@ use crate::dice::Dice;
 use crate::spoilt;
 
 const BROKEN: usize = 5;
+/// One broken line in so many gets a bad digit besides.
+const TWICE: usize = 4;
+
+const BAD_DIGITS: &[u8] = b"abcdefgG /:@`\r\0\xFF";
 
 pub struct Walk {
     pub dice: Dice,
@@ -207,15 +211,24 @@ impl Walk {
         }
     }
 
+    fn broken(&mut self, frame: String) -> Vec<u8> {
+        let mut line = self.broken_once(frame);
+        if !line.is_empty() && self.dice.once_in(TWICE) {
+            let at = self.dice.below(line.len());
+            line[at] = self.dice.pick(BAD_DIGITS);
+        }
+        line
+    }
+
     /// The line with one thing wrong: a digit, the length, the case, a byte at a limit. Most of what a line says
     /// stands in its first digits, so half of the places are there.
-    fn broken(&mut self, frame: String) -> Vec<u8> {
+    fn broken_once(&mut self, frame: String) -> Vec<u8> {
         let mut line = frame.into_bytes();
         let near = if self.dice.once_in(2) { line.len() } else { line.len().min(12) };
         let at = self.dice.below(near);
         match self.dice.below(15) {
             0 | 1 => line[at] = self.dice.pick(b"0123456789ABCDEF"),
-            2 => line[at] = self.dice.pick(b"abcdefgG /:@`\r\0\xFF"),
+            2 => line[at] = self.dice.pick(BAD_DIGITS),
             3 => drop(line.remove(at)),
             4 => line.insert(at, self.dice.pick(b"0F\n")),
             5 => line.truncate(at),
@@ -225,7 +238,7 @@ impl Walk {
             9 => line.make_ascii_lowercase(),
             10 => line.clear(),
             11 => {
-                let most = 2 * self.dice.pick(&[REPLACE, REPLACE, REPLACE, FRAME]);
+                let most = 2 * self.dice.pick(&[REPLACE, REPLACE, FRAME]);
                 let digits = (most + self.dice.below(4)).saturating_sub(1);
                 line.resize(digits.max(line.len()), b'0');
             }
