@@ -63,23 +63,9 @@ first-decides : (b : Bool) (f n : ℕ) → eqb (cond b (suc f) 0) (suc n) ≡ b 
 first-decides true f n = eqb·suc-suc f n
 first-decides false f n = eqb·zero-suc n
 
-first-is : (b : Bool) (f : ℕ) → 0 < cond b (suc f) 0 → b ≡ true
-first-is true f h = refl
-first-is false f h = absurd (omega arith)
-
-first-gone : (b : Bool) (f k : ℕ) → suc k < cond b (suc f) 0 → k < f
-first-gone true f k h = omega arith
-first-gone false f k h = absurd (omega arith)
-
 first-fits : (b : Bool) (f n : ℕ) → f ≤ n → cond b (suc f) 0 ≤ suc n
 first-fits true f n h = omega arith
 first-fits false f n h = omega arith
-
-pub digit-at : (line : List ℕ) (k : ℕ) → k < firstBad line → isDigit (getD line k 0) ≡ true
-unfolding firstBad
-digit-at [] k h = absurd (omega arith)
-digit-at (d ∷ line) zero h = first-is (isDigit d) (firstBad line) h
-digit-at (d ∷ line) (suc k) h = digit-at line k (first-gone (isDigit d) (firstBad line) k h)
 
 pub bad-fits : (line : List ℕ) → firstBad line ≤ length line
 unfolding firstBad

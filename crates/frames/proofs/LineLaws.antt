@@ -18,10 +18,11 @@ use Rattle.rules.specs.declared.BadLine.the-variants.{Empty, TooLong, BadDigit,
 use Rattle.rules.specs.Numbers.{digitsMost}
 use Rattle.rules.specs.Answers.{07·01}
 use Rattle.rules.specs.Checks.{Check, _when_, Verdict, passed, refused, firstRefusal, settle, judged, AllPass}
-use Rattle.rules.specs.FrameLine.{firstBad, decoded, lineChecks, readLine, isBytes, isFrameLine}
+use Rattle.rules.specs.FrameLine.{firstBad, decoded, lineChecks, readLine}
 use Rattle.rules.specs.Frames.{readFrame}
 use Rattle.rules.specs.Order.{frameOf, readingChecks}
 use Rattle.rules.proofs.ChecksLaws.{judged-pass, judged-refusing}
+use Rattle.rules.proofs.FrameLineLaws.{isBytes, isFrameLine}
 use Rattle.digits.specs.Decoding.{allDigits}
 use Rattle.digits.specs.Digits.{ReadInto, readInto}
 use Rattle.digits.proofs.ReadingLaws.{some-bad, length-decoded}

@@ -100,6 +100,7 @@ asLoad ns tag bytes f NoLoad = record { read = Refused 07·17; frame = f }
 asLoad ns tag bytes f BadKeyUid = record { read = Refused 07·18; frame = f }
 asLoad ns tag bytes f (Brings l) = record { read = Load ns tag l; frame = write 5 (l + keySize) (take (l + keySize) bytes) f }
 
+-- a KeyUID that was brought fits a slot
 abbrev pub Short : MessageRead → Type 0
 Short NoRoom = Unit {0}
 Short NoLoad = Unit {0}

@@ -13,10 +13,9 @@ use Rattle.cells.specs.Cells.{zeros}
 use Rattle.cells.proofs.CopyingLaws.{copiedTo}
 use Rattle.cells.proofs.CellsLaws.{push, copied, lent-length-to, length-zeros}
 use Rattle.rules.specs.Numbers.{keySize, uidMost}
-use Rattle.rules.specs.Slots.{Contents, FitKey}
+use Rattle.rules.specs.Slots.{FitKey}
 use Rattle.rules.specs.Frames.{badUidLength}
-use Rattle.rules.specs.Ttlv.{toEight, encode}
-use Rattle.rules.specs.KmipMessage.{messageOf}
+use Rattle.rules.specs.Ttlv.{toEight}
 use Rattle.kmip.specs.Pieces.{beforeSize, betweenSize, beforeUid, betweenUidAndKey}
 use Rattle.kmip.specs.Writing.{messageRoom, messageBytes, Wrote, writeMessage, WrittenReadsBack}
 use Rattle.kmip.specs.declared.MessageWritten.the-variants.{NoRoom, NoKey, BadKeyUid, Bytes}

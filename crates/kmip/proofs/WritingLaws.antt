@@ -4,7 +4,7 @@ use mathlib.Core.Path.{_≡_, refl, sym, ap, _∙_}
 use mathlib.Core.Bool.{Bool, true, false}
 use mathlib.Core.Logic.{_⊎_, inl, inr}
 use mathlib.Core.List.{List, [], _∷_, _++_, append-nil, append-assoc}
-use Prim.Native.Nat.{ℕ, _+_, _-_, _*_, _/_, _%_, _<_, _≤_}
+use Prim.Native.Nat.{ℕ, _+_, _-_, _/_, _%_, _<_, _≤_}
 use native.Mathlib.Omega.{arith}
 use lib.ListN.{length}
 use lib.Dec.{leb}
@@ -42,21 +42,12 @@ coded-is (structure tag members behind) rest =
     ∙ ap (λ z. h ++ z) (coded-is members (coded behind rest))
     ∙ ap (λ n. head tag Structure n ++ coded members (coded behind rest)) (size-is members)
 
--- the four bytes of a number below 65,536
-top : (n : ℕ) → n < 65536 → n / 16777216 % 256 ≡ 0
-top n h = omega arith
+-- the four bytes of a number below 65,536, and below 256
+two-bytes : (n : ℕ) → n < 65536 → (n / 16777216 % 256 ≡ 0) × (n / 65536 % 256 ≡ 0) × (n / 256 % 256 ≡ n / 256)
+two-bytes n h = (omega arith, omega arith, omega arith)
 
-second : (n : ℕ) → n < 65536 → n / 65536 % 256 ≡ 0
-second n h = omega arith
-
-third : (n : ℕ) → n < 65536 → n / 256 % 256 ≡ n / 256
-third n h = omega arith
-
-no-third : (n : ℕ) → n < 256 → n / 256 % 256 ≡ 0
-no-third n h = omega arith
-
-last : (n : ℕ) → n < 256 → n % 256 ≡ n
-last n h = omega arith
+one-byte : (n : ℕ) → n < 256 → (n / 16777216 % 256 ≡ 0) × (n / 65536 % 256 ≡ 0) × (n / 256 % 256 ≡ 0) × (n % 256 ≡ n)
+one-byte n h = (omega arith, omega arith, omega arith, omega arith)
 
 -- a KeyUID takes 8 or 16 bytes with its padding
 rooms-by : (l : ℕ) (b : Bool) → leb l 8 ≡ b → 0 < l → l ≤ uidMost → (toEight l ≡ 8) ⊎ (toEight l ≡ 16)
@@ -79,43 +70,15 @@ module _ (ns tag : ℕ) (x : Contents) (hn : ns < 256) (ht : tag < 65536) (few :
       → coded (messageOf ns tag x) rest ≡ beforeUid l r ++ (x .uid ++ (zeros (r - l) ++ (betweenUidAndKey ns tag ++ (x .key ++ rest))))
   unfolding coded messageOf head size beforeUid betweenUidAndKey zeros
   by-room rest r (inl e) t =
-      let s : l < 65536 = omega arith in
-      let m : ns < 65536 = omega arith in
-      rw (
-        whole,
-        t,
-        e,
-        top l s,
-        second l s,
-        no-third l (omega arith),
-        last l (omega arith),
-        top ns m,
-        second ns m,
-        no-third ns hn,
-        last ns hn,
-        top tag ht,
-        second tag ht,
-        third tag ht,
-      )
+      let a = one-byte l (omega arith) in
+      let b = one-byte ns hn in
+      let c = two-bytes tag ht in
+      rw (whole, t, e, a .0, a .1, a .2, a .3, b .0, b .1, b .2, b .3, c .0, c .1, c .2)
   by-room rest r (inr e) t =
-      let s : l < 65536 = omega arith in
-      let m : ns < 65536 = omega arith in
-      rw (
-        whole,
-        t,
-        e,
-        top l s,
-        second l s,
-        no-third l (omega arith),
-        last l (omega arith),
-        top ns m,
-        second ns m,
-        no-third ns hn,
-        last ns hn,
-        top tag ht,
-        second tag ht,
-        third tag ht,
-      )
+      let a = one-byte l (omega arith) in
+      let b = one-byte ns hn in
+      let c = two-bytes tag ht in
+      rw (whole, t, e, a .0, a .1, a .2, a .3, b .0, b .1, b .2, b .3, c .0, c .1, c .2)
 
   pub message-pieces : 0 < l → encode (messageOf ns tag x) ≡ inPieces (toEight l)
   message-pieces some =

@@ -11,7 +11,6 @@ use Prim.Native.Nat.{ℕ, _^_, _<_}
 use lib.ListN.{length, take, drop}
 use lib.Dec.{eqb, ltb}
 use Rattle.rules.specs.Numbers.{keySize}
-use Rattle.rules.specs.Slots.{Contents}
 use Rattle.rules.specs.Frames.{badUidLength}
 use Rattle.rules.specs.Ttlv.{AreBytes, encode}
 use Rattle.rules.specs.Kmip.{loadOf}

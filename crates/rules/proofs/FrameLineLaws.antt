@@ -10,19 +10,20 @@ use native.Mathlib.Omega.{arith}
 use lib.ListN.{length, getD}
 use lib.Dec.{eqb, leb, ltb}
 use borrow.Author.Tests.{leb-true, le-leb, lt-leb, lt-ltb, le-ltb, ltb-true, ltb-false, eqb-true, not-false}
+use Rattle.rules.specs.declared.LineRead.{LineRead}
 use Rattle.rules.specs.declared.LineRead.the-variants.{Bytes, Bad}
 use Rattle.rules.specs.declared.BadLine.{BadLine}
 use Rattle.rules.specs.declared.BadLine.the-variants.{Empty, TooLong, BadDigit, Odd}
 use Rattle.rules.specs.Numbers.{digitsMost}
-use Rattle.rules.specs.Checks.{_when_, refused, firstRefusal, judged, refusing, AllPass}
+use Rattle.rules.specs.Checks.{_when_, refused, firstRefusal, settle, judged, refusing, AllPass}
 use Rattle.rules.specs.Answers.{07·01, placeIn, digitOf}
-use Rattle.rules.specs.FrameLine.{isDigit, valueOf, firstBad, decoded, lineChecks, readLine, isBytes, isFrameLine}
+use Rattle.rules.specs.FrameLine.{isDigit, valueOf, firstBad, decoded, lineChecks, readLine}
 use Rattle.rules.specs.Fields.{byte}
 use Rattle.rules.specs.Frames.{discovery, readLoad, readReplace, readMessage, kinds, readFrame, unknownKind}
 use Rattle.rules.specs.Order.{frameOf, readingChecks}
 use Rattle.rules.specs.Call.{discoveryLine}
 use Rattle.rules.specs.Promises.{FirstBadDigit, PlaceToldIsFirst}
-use Rattle.rules.proofs.ChecksLaws.{never-passed, pass-append, pass-refusing, judged-pass}
+use Rattle.rules.proofs.ChecksLaws.{pass-append, pass-refusing, judged-pass}
 
 digit-range : (d : ℕ) → isDigit d ≡ true → ((48 ≤ d) × (d ≤ 57)) ⊎ ((65 ≤ d) × (d ≤ 70))
 digit-range d h = by (leb 48 d) (leb d 57) (leb 65 d) (leb d 70) refl refl refl refl h
@@ -45,6 +46,14 @@ digit-of d h =
     (λ r. rw (h, lt-leb d 57 (omega arith), le-ltb (d - 55) 10 (omega arith)) (omega arith))
     (digit-range d h)
 
+-- a line that was read as bytes
+abbrev pub isBytes : LineRead → Bool
+isBytes (Bytes n) = true
+isBytes (Bad why) = false
+
+abbrev pub isFrameLine : List ℕ → Bool
+isFrameLine line = isBytes (readLine line)
+
 -- a line that is read is a frame line, and its frame is read
 pub line-passes : (line : List ℕ) → AllPass (readingChecks line) → (isFrameLine line ≡ true) × AllPass (readFrame (decoded line) .checks)
 unfolding readLine
@@ -63,7 +72,7 @@ bad-there (d ∷ ds) h = by (isDigit d) refl (bad-there ds) h
     by true e more h = more (omega arith)
     by false e more h = e
 
-good-before : (line : List ℕ) (k : ℕ) → k < firstBad line → isDigit (getD line k 0) ≡ true
+pub good-before : (line : List ℕ) (k : ℕ) → k < firstBad line → isDigit (getD line k 0) ≡ true
 unfolding firstBad
 good-before [] k h = absurd (omega arith)
 good-before (d ∷ ds) k h = by (isDigit d) refl (good-before ds) k h
@@ -94,20 +103,13 @@ place-told-is-first line place e =
 
 -- the place of a bad digit is one of 1,024
 pub bad-place : (line : List ℕ) (why : BadLine) → firstRefusal (lineChecks line) ≡ refused why → placeIn why ≤ digitsMost
-unfolding lineChecks
-bad-place line why e =
-    by (eqb (length line) 0) (ltb digitsMost (length line)) (ltb (firstBad line) (length line)) (eqb (length line % 2) 1) refl refl why e
-  where
-    by : (a b c d : Bool) → ltb digitsMost (length line) ≡ b → ltb (firstBad line) (length line) ≡ c → (why : BadLine)
-        → firstRefusal (Empty when a ∷ TooLong when b ∷ BadDigit (firstBad line) when c ∷ Odd when d ∷ []) ≡ refused why
-        → placeIn why ≤ digitsMost
-    by true b c d p q why e = let z : Empty ≡ why = cc in rw (← z) (omega arith)
-    by false true c d p q why e = let z : TooLong ≡ why = cc in rw (← z) (omega arith)
-    by false false true d p q why e =
-        let z : BadDigit (firstBad line) ≡ why = cc in
-        rw (← z) (omega (arith, ltb-true (firstBad line) (length line) q, ltb-false digitsMost (length line) p))
-    by false false false true p q why e = let z : Odd ≡ why = cc in rw (← z) (omega arith)
-    by false false false false p q why e = absurd (never-passed e)
+unfolding readLine
+bad-place line Empty e = omega arith
+bad-place line TooLong e = omega arith
+bad-place line (BadDigit place) e =
+    let f = place-told-is-first line place (ap (λ v. settle v Bad (Bytes (length line / 2))) e) in
+    omega (arith, f .inside, f .short)
+bad-place line Odd e = omega arith
 
 -- two bytes that are a frame line are digits
 two-digits : (a b : ℕ) → isFrameLine (a ∷ b ∷ []) ≡ true → (isDigit a ≡ true) × (isDigit b ≡ true)

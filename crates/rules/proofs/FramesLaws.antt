@@ -18,7 +18,7 @@ use Rattle.rules.specs.Kmip.{loadOf}
 use Rattle.rules.specs.Slots.{FitKey}
 use Rattle.rules.specs.Frames.{Frame, manage, release, load, replace, clearOne, clearAll, io, setFeatures, getFeatures, bootWrite, reset, discovery}
 use Rattle.rules.specs.Frames.{unknown, badUidLength, contentsAt, readLoad, readReplace, readMessage, unknownKind, kinds, readFrame}
-use Rattle.rules.specs.Frames.{bringsNothing, brought}
+use Rattle.rules.specs.Frames.{brought}
 use Rattle.rules.proofs.KmipLaws.{load-key}
 
 abbrev pub Fit : Frame → Type 0

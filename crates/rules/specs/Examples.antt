@@ -1,7 +1,7 @@
 -- "Bench examples": P1 to P10 and the paper's session as one table, lines and
 -- answers in the paper's own digits; D1 for discovery, M1 for whole KeyUIDs, K1 to
--- K3 for loads in KMIP form, L1 for bad lines. Each row starts from a fresh drive and each line is a
--- whole call with just the room that it asks.
+-- K3 for loads in KMIP form, L1 for bad lines. Each row starts from a fresh drive
+-- and each line is a whole call with just the room that it asks.
 -- Assumes nothing.
 use mathlib.Core.Path.{_≡_}
 use mathlib.Core.Bool.{Bool, true, _&&_}

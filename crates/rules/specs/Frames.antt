@@ -100,7 +100,7 @@ readReplace f =
       frame = replace (namespace (byte 1 f)) (keyTag (bytes 2 3 f)) (part 5 o f) (contentsAt (6 + o) l f);
     }
 
--- namespace 1, tag 2, then a message that brings KeyUID and key: a load
+-- what a message brings
 abbrev pub bringsNothing : Option Contents → Bool
 bringsNothing none = true
 bringsNothing (some x) = false
@@ -109,6 +109,7 @@ abbrev pub brought : Option Contents → Contents
 brought none = record { uid = []; key = [] }
 brought (some x) = x
 
+-- namespace 1, tag 2, then a message that brings KeyUID and key: a load
 unfoldable pub readMessage : List ℕ → Reading
 readMessage f =
     let x = loadOf (byte 1 f) (bytes 2 3 f) (drop 4 f) in

@@ -8,7 +8,8 @@ use lib.ListN.{length, getD, take, drop, set, length-set}
 use borrow.Author.Tests.{eqb-true}
 use borrow.Author.Needs.{needs}
 use Rattle.rules.specs.FrameLine.{valueOf, firstBad, decoded}
-use Rattle.digits.proofs.ReadingLaws.{value-of, digit-at, decode-turn, decode-end}
+use Rattle.rules.proofs.FrameLineLaws.{good-before}
+use Rattle.digits.proofs.ReadingLaws.{value-of, decode-turn, decode-end}
 use Rattle.digits.proofs.decode_all.Statement.{statement}
 use Rattle.digits.proofs.decode_all.Tie as tie
 
@@ -31,13 +32,13 @@ high : (c : tie.After-value Inv-loop μ-loop) → let at = c .before .before .be
     (c .value .result ≤ 15) × (c .value .result ≡ valueOf (getD (text at) (at .loop .i * 2) 0))
 high c =
     let at : tie.At-loop Inv-loop μ-loop = search in
-    value-of _ _ (c .value .ensures) (digit-at (text at) (at .loop .i * 2) (omega (arith, full at)))
+    value-of _ _ (c .value .ensures) (good-before (text at) (at .loop .i * 2) (omega (arith, full at)))
 
 low : (c : tie.After-value2 Inv-loop μ-loop) → let at = c .before .before .before .before .before in
     (c .value2 .result ≤ 15) × (c .value2 .result ≡ valueOf (getD (text at) (at .loop .i * 2 + 1) 0))
 low c =
     let at : tie.At-loop Inv-loop μ-loop = search in
-    value-of _ _ (c .value2 .ensures) (digit-at (text at) (at .loop .i * 2 + 1) (omega (arith, full at)))
+    value-of _ _ (c .value2 .ensures) (good-before (text at) (at .loop .i * 2 + 1) (omega (arith, full at)))
 
 loop-holds : tie.Need-loop-holds Inv-loop μ-loop
 unfolding decoded

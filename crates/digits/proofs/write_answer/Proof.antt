@@ -1,9 +1,7 @@
 -- `digits::write_answer` meets its contract: each arm hands the answer's bytes to `write_line`.
 -- Assumes nothing.
 use borrow.Author.Needs.{needs}
-use mathlib.Core.Path.{sym, ap, _∙_}
-use mathlib.Core.List.{[], _∷_}
-use Prim.Native.Nat.{_/_, _%_}
+use mathlib.Core.Path.{ap}
 use Rattle.rules.specs.Answers.{answerBytes}
 use Rattle.digits.proofs.write_answer.Statement.{statement}
 use Rattle.digits.proofs.write_answer.Tie as tie

@@ -1,8 +1,6 @@
 -- `write` meets its contract: each refusal in its order, or the message.
 -- Assumes nothing.
 use borrow.Author.Needs.{needs}
-use native.Mathlib.Omega.{arith}
-use mathlib.Core.Path.{_∙_, ap}
 use Rattle.kmip.proofs.ReadingLaws.{few-bytes, some-bytes}
 use Rattle.kmip.proofs.LayingLaws.{no-room, no-key, bad-uid, written}
 use Rattle.kmip.proofs.write.Statement.{statement}

@@ -1,7 +1,7 @@
 -- `tuffaleen_message` meets its contract: what the writer told, as a number and a count.
 -- Assumes nothing.
 use borrow.Author.Needs.{needs}
-use mathlib.Core.Path.{_≡_, ap, _∙_}
+use mathlib.Core.Path.{ap}
 use Rattle.rules.specs.Answers.{number}
 use Rattle.kmip.specs.Writing.{Wrote}
 use Rattle.tuffaleen_c.specs.Office.{messageAnswer, messageLength, CMessage, cMessage}

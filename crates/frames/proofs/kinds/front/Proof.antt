@@ -3,7 +3,6 @@
 use borrow.Author.Needs.{needs}
 use native.Mathlib.Omega.{arith}
 use mathlib.Core.Path.{_≡_, sym, ap, _∙_}
-use Prim.Native.Nat.{_≤_}
 use lib.ListN.{getD, take}
 use lib.Seq.{length-take-le, getD-take}
 use Rattle.rules.specs.Fields.{byte}

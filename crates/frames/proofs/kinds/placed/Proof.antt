@@ -1,7 +1,6 @@
 -- `placed` meets its contract: what a message brings is copied to byte 5.
 -- Assumes nothing.
 use borrow.Author.Needs.{needs}
-use native.Mathlib.Omega.{arith}
 use Rattle.frames.proofs.kinds.placed.Statement.{statement}
 use Rattle.frames.proofs.kinds.placed.Tie as tie
 

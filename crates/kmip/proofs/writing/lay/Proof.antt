@@ -2,7 +2,7 @@
 -- Assumes nothing.
 use borrow.Author.Needs.{needs}
 use native.Mathlib.Omega.{arith}
-use mathlib.Core.Path.{sym, refl}
+use mathlib.Core.Path.{sym}
 use lib.Seq.{length-take-le}
 use Rattle.kmip.specs.Pieces.{beforeSize}
 use Rattle.kmip.proofs.LayingLaws.{between-size, message-long, laid, laid-length}

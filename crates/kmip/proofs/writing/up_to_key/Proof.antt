@@ -2,7 +2,6 @@
 -- Assumes nothing.
 use borrow.Author.Needs.{needs}
 use native.Mathlib.Omega.{arith}
-use mathlib.Core.Path.{_≡_, ap, _∙_}
 use lib.ListN.{length, length-set}
 use Rattle.kmip.specs.Pieces.{betweenUidAndKey}
 use Rattle.kmip.proofs.writing.up_to_key.Statement.{statement}
