@@ -9,6 +9,7 @@ ghost use Rattle.rules.specs.Sessions.{linesOf, roomForAll};
 ghost use Rattle.drive.specs.Lines.{stride, NoFeed, LineAt};
 use rules::ANSWER_MOST;
 use rules::DISCOVERY_MOST;
+use std::num::wrapping_sub_u8;
 
 const LINE_FEED: u8 = 10;
 
@@ -21,19 +22,27 @@ pub(crate) struct Line {
 // As many bytes as are looked through for a line feed at once.
 const STRIDE_BYTES: usize = 32;
 
-// Whether the stride at `at` has no line feed. It does not stop at one, so that the compiler can take all bytes at once.
+// The smaller of two. Compiled, it has no branch.
+fn smaller(a: u8, b: u8) -> u8
+    ensures { λ r. ⌜ (r ≤ a) × (r ≤ b) ⌝ }
+{
+    if a < b { a } else { b }
+}
+
+// Whether the stride at `at` has no line feed. It does not stop at one, and keeps how far the nearest byte was from one, counted upward: the
+// compiler takes the least of many bytes in one step.
 fn clean_stride(text: &[u8], at: usize) -> bool
     requires { ⌜ at + stride ≤ length (now text) ⌝ }
     ensures { λ r. ⌜ (r ≡ true → NoFeed (now (text .entry)) at (at + stride)) ⌝ }
 {
-    let mut clean = true;
+    let mut least: u8 = 255;
     let mut k = 0;
     while k < STRIDE_BYTES {
         let i = at + k;
-        clean = clean & (text[i] != LINE_FEED);
+        least = smaller(least, wrapping_sub_u8(text[i], LINE_FEED));
         k += 1;
     }
-    clean
+    least > 0
 }
 
 // Past the clean strides from `at` on.

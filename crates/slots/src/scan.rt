@@ -41,8 +41,9 @@ fn same_run(keys: &[u8], a: usize, head: &[u8], b: usize, n: usize) -> bool
     same
 }
 
-// Whether the slot has this head: lengths first, so that of an empty slot no other byte is looked at; then the KeyUID, half by half, up to
-// the first half that differs.
+// Whether the slot has this head: lengths first, so that of an empty slot, or one with another length, no other byte is looked at; then the
+// KeyUID, both halves with no branch between them: KeyUIDs of one production often share the first, and a branch that is taken now and then
+// costs more than the second.
 fn same_head(keys: &[u8], place: usize, head: &[u8]) -> bool
     requires { ⌜ (length (now keys) ≡ cacheSize) × (place < slotPlaces) × (length (now head) ≡ headSize) ⌝ }
     ensures { λ r. ⌜ r ≡ same (headOf (cell slotWidth place (now (keys .entry)))) (now (head .entry)) ⌝ }
@@ -51,10 +52,8 @@ fn same_head(keys: &[u8], place: usize, head: &[u8]) -> bool
     if keys[a] != head[0] {
         return false;
     }
-    if same_run(keys, a + 1, head, 1, HALF_UID) {
-        return same_run(keys, a + REST_AT, head, REST_AT, REST_UID);
-    }
-    false
+    let half = same_run(keys, a + 1, head, 1, HALF_UID);
+    half & same_run(keys, a + REST_AT, head, REST_AT, REST_UID)
 }
 
 fn other_key_at(keys: &[u8], place: usize, head: &[u8], key: &[u8]) -> bool
