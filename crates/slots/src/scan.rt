@@ -42,8 +42,8 @@ fn same_run(keys: &[u8], a: usize, head: &[u8], b: usize, n: usize) -> bool
 }
 
 // Whether the slot has this head: lengths first, so that of an empty slot, or one with another length, no other byte is looked at; then the
-// KeyUID, both halves with no branch between them: KeyUIDs of one production often share the first, and a branch that is taken now and then
-// costs more than the second.
+// KeyUID, half by half, up to the first half that differs. The second half comes first: numbers of one production begin alike, and a test
+// that turns out now this way and now that costs more than the other half.
 fn same_head(keys: &[u8], place: usize, head: &[u8]) -> bool
     requires { ⌜ (length (now keys) ≡ cacheSize) × (place < slotPlaces) × (length (now head) ≡ headSize) ⌝ }
     ensures { λ r. ⌜ r ≡ same (headOf (cell slotWidth place (now (keys .entry)))) (now (head .entry)) ⌝ }
@@ -52,8 +52,10 @@ fn same_head(keys: &[u8], place: usize, head: &[u8]) -> bool
     if keys[a] != head[0] {
         return false;
     }
-    let half = same_run(keys, a + 1, head, 1, HALF_UID);
-    half & same_run(keys, a + REST_AT, head, REST_AT, REST_UID)
+    if same_run(keys, a + REST_AT, head, REST_AT, REST_UID) {
+        return same_run(keys, a + 1, head, 1, HALF_UID);
+    }
+    false
 }
 
 fn other_key_at(keys: &[u8], place: usize, head: &[u8], key: &[u8]) -> bool
