@@ -6,6 +6,21 @@ use Rattle.cells.proofs.equal.Met as cells-equal
 use Rattle.cells.proofs.all_zero.Met as cells-all-zero
 use Rattle.cells.proofs.zero_part.Met as cells-zero-part
 use Rattle.cells.proofs.same_part.Met as cells-same-part
+use Rattle.aes.proofs.sub_table.Met as aes-sub-table
+use Rattle.aes.proofs.inv_sub_table.Met as aes-inv-sub-table
+use Rattle.aes.proofs.mix_table.Met as aes-mix-table
+use Rattle.aes.proofs.inv_mix_table.Met as aes-inv-mix-table
+use Rattle.aes.proofs.word_at.Met as aes-word-at
+use Rattle.aes.proofs.put_word.Met as aes-put-word
+use Rattle.aes.proofs.expand.Met as aes-expand
+use Rattle.aes.proofs.unmix.Met as aes-unmix
+use Rattle.aes.proofs.wipe.Met as aes-wipe
+use Rattle.aes.proofs.cipher_by.Met as aes-cipher-by
+use Rattle.aes.proofs.inv_cipher_by.Met as aes-inv-cipher-by
+use Rattle.aes.proofs.cipher.Met as aes-cipher
+use Rattle.aes.proofs.inv_cipher.Met as aes-inv-cipher
+use Rattle.wrap.proofs.wrap.Met as wrap-wrap
+use Rattle.wrap.proofs.unwrap.Met as wrap-unwrap
 use Rattle.discovery.proofs.own_fields.Met as discovery-own-fields
 use Rattle.discovery.proofs.write.Met as discovery-write
 use Rattle.discovery.proofs.read.Met as discovery-read
@@ -56,6 +71,21 @@ defined = record {
   cells-all-zero-ends = cells-all-zero.met;
   cells-zero-part-ends = cells-zero-part.met;
   cells-same-part-ends = cells-same-part.met;
+  aes-sub-table-ends = aes-sub-table.met;
+  aes-inv-sub-table-ends = aes-inv-sub-table.met;
+  aes-mix-table-ends = aes-mix-table.met;
+  aes-inv-mix-table-ends = aes-inv-mix-table.met;
+  aes-word-at-ends = aes-word-at.met;
+  aes-put-word-ends = aes-put-word.met;
+  aes-expand-ends = aes-expand.met;
+  aes-unmix-ends = aes-unmix.met;
+  aes-wipe-ends = aes-wipe.met;
+  aes-cipher-by-ends = aes-cipher-by.met;
+  aes-inv-cipher-by-ends = aes-inv-cipher-by.met;
+  aes-cipher-ends = aes-cipher.met;
+  aes-inv-cipher-ends = aes-inv-cipher.met;
+  wrap-wrap-ends = wrap-wrap.met;
+  wrap-unwrap-ends = wrap-unwrap.met;
   discovery-own-fields-ends = discovery-own-fields.met;
   discovery-write-ends = discovery-write.met;
   discovery-read-ends = discovery-read.met;

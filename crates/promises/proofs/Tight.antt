@@ -2,6 +2,7 @@
 -- allows both equal what a definition gives for the entry values.
 -- Assumes nothing.
 use mathlib.Core.Path.{_≡_, sym, ap, _∙_}
+use mathlib.Core.Bool.{Bool}
 use mathlib.Core.List.{List}
 use base.Logic.{emp, id⊢}
 use contract.Monad.{conjL, conjR, fact-use, factI}
@@ -13,6 +14,7 @@ use Rattle.rules.specs.Call.{Called as CallLeft}
 use Rattle.rules.specs.Sessions.{Session as SessionLeft}
 use Rattle.rules.specs.Discovering.{Responded}
 use Rattle.digits.specs.Digits.{ReadInto, Wrote}
+use Rattle.wrap.specs.Wrapping.{Opening}
 use Rattle.drive.specs.declared.Answered.{Answered}
 use Rattle.drive.specs.declared.Reply.{Reply}
 use Rattle.drive.specs.declared.SessionReply.{SessionReply}
@@ -28,6 +30,10 @@ use Rattle.kmip.specs.Writing.{Wrote as MessageWrote}
 use Rattle.promises.specs.Tight.{Tight-tuffaleen-c-start, Tight-tuffaleen-c-line, Tight-tuffaleen-c-session}
 use Rattle.promises.specs.Tight.{Tight-cells-fill-zero, Tight-cells-copy, Tight-cells-equal, Tight-cells-all-zero, Tight-cells-zero-part}
 use Rattle.promises.specs.Tight.{Tight-cells-same-part}
+use Rattle.promises.specs.Tight.{Tight-aes-sub-table, Tight-aes-inv-sub-table, Tight-aes-mix-table, Tight-aes-inv-mix-table}
+use Rattle.promises.specs.Tight.{Tight-aes-word-at, Tight-aes-put-word, Tight-aes-expand, Tight-aes-unmix, Tight-aes-wipe}
+use Rattle.promises.specs.Tight.{Tight-aes-cipher-by, Tight-aes-inv-cipher-by, Tight-aes-cipher, Tight-aes-inv-cipher}
+use Rattle.promises.specs.Tight.{Tight-wrap-wrap, Tight-wrap-unwrap}
 use Rattle.promises.specs.Tight.{Tight-discovery-own-fields, Tight-discovery-write, Tight-discovery-read, Tight-tuffaleen-c-discovery}
 use Rattle.promises.specs.Tight.{Tight-tuffaleen-c-message}
 use Rattle.promises.specs.Tight.{Tight-ttlv-item-at, Tight-ttlv-sound, Tight-ttlv-read, Tight-ttlv-write, Tight-kmip-read, Tight-kmip-write}
@@ -43,6 +49,14 @@ use Rattle.promises.specs.Tight.{Tight-frames-read}
 -- the law: what two outcomes both equal, they share
 one : {A : Type 0} {x y z : A} → x ≡ z → y ≡ z → x ≡ y
 one p q = p ∙ sym q
+
+-- and so do pairs of such
+both : {A B : Type 0} {a a′ : A} {b b′ : B} → a ≡ a′ → b ≡ b′ → _≡_ {A = A × B} (a, b) (a′, b′)
+both p q = λ i. (p i, q i)
+
+opening : {o o′ : Opening} {w w′ : List ℕ} → o ≡ o′ → w ≡ w′
+    → _≡_ {A = Bool × (List ℕ × List ℕ)} (o .opened, (o .bytes, w)) (o′ .opened, (o′ .bytes, w′))
+opening p q = λ i. (p i .opened, (p i .bytes, q i))
 
 pub tight-cells-fill-zero : Tight-cells-fill-zero
 tight-cells-fill-zero = (λ κs args. tt, λ κs args r r′ e e′ p q. one p q)
@@ -61,6 +75,51 @@ tight-cells-zero-part = (λ κs args. tt, λ κs args r r′ e e′ p q. one p q
 
 pub tight-cells-same-part : Tight-cells-same-part
 tight-cells-same-part = (λ κs args. tt, λ κs args r r′ e e′ p q. one p q)
+
+pub tight-aes-sub-table : Tight-aes-sub-table
+tight-aes-sub-table = (λ κs args. tt, λ κs args r r′ e e′ p q. one p q)
+
+pub tight-aes-inv-sub-table : Tight-aes-inv-sub-table
+tight-aes-inv-sub-table = (λ κs args. tt, λ κs args r r′ e e′ p q. one p q)
+
+pub tight-aes-mix-table : Tight-aes-mix-table
+tight-aes-mix-table = (λ κs args. tt, λ κs args r r′ e e′ p q. one p q)
+
+pub tight-aes-inv-mix-table : Tight-aes-inv-mix-table
+tight-aes-inv-mix-table = (λ κs args. tt, λ κs args r r′ e e′ p q. one p q)
+
+pub tight-aes-word-at : Tight-aes-word-at
+tight-aes-word-at = (λ κs args. tt, λ κs args r r′ e e′ p q. one p q)
+
+pub tight-aes-put-word : Tight-aes-put-word
+tight-aes-put-word = (λ κs args. tt, λ κs args r r′ e e′ p q. one p q)
+
+pub tight-aes-expand : Tight-aes-expand
+tight-aes-expand = (λ κs args. tt, λ κs args r r′ e e′ p q. one p q)
+
+pub tight-aes-unmix : Tight-aes-unmix
+tight-aes-unmix = (λ κs args. tt, λ κs args r r′ e e′ p q. one p q)
+
+pub tight-aes-wipe : Tight-aes-wipe
+tight-aes-wipe = (λ κs args. tt, λ κs args r r′ e e′ p q. one p q)
+
+pub tight-aes-cipher-by : Tight-aes-cipher-by
+tight-aes-cipher-by = (λ κs args. tt, λ κs args r r′ e e′ p q. one p q)
+
+pub tight-aes-inv-cipher-by : Tight-aes-inv-cipher-by
+tight-aes-inv-cipher-by = (λ κs args. tt, λ κs args r r′ e e′ p q. one p q)
+
+pub tight-aes-cipher : Tight-aes-cipher
+tight-aes-cipher = (λ κs args. tt, λ κs args r r′ e e′ p q. both (one (p .0) (q .0)) (one (p .1) (q .1)))
+
+pub tight-aes-inv-cipher : Tight-aes-inv-cipher
+tight-aes-inv-cipher = (λ κs args. tt, λ κs args r r′ e e′ p q. both (one (p .0) (q .0)) (one (p .1) (q .1)))
+
+pub tight-wrap-wrap : Tight-wrap-wrap
+tight-wrap-wrap = (λ κs args. tt, λ κs args r r′ e e′ p q. both (one (p .0) (q .0)) (one (p .1) (q .1)))
+
+pub tight-wrap-unwrap : Tight-wrap-unwrap
+tight-wrap-unwrap = (λ κs args. tt, λ κs args r r′ e e′ p q. opening (one (p .0) (q .0)) (one (p .1) (q .1)))
 
 pub tight-discovery-own-fields : Tight-discovery-own-fields
 tight-discovery-own-fields = (λ κs args. tt, λ κs args r r′ e e′ p q. one p q)

@@ -7,6 +7,21 @@ use Rattle.cells.proofs.equal.Statement as cells-equal
 use Rattle.cells.proofs.all_zero.Statement as cells-all-zero
 use Rattle.cells.proofs.zero_part.Statement as cells-zero-part
 use Rattle.cells.proofs.same_part.Statement as cells-same-part
+use Rattle.aes.proofs.sub_table.Statement as aes-sub-table
+use Rattle.aes.proofs.inv_sub_table.Statement as aes-inv-sub-table
+use Rattle.aes.proofs.mix_table.Statement as aes-mix-table
+use Rattle.aes.proofs.inv_mix_table.Statement as aes-inv-mix-table
+use Rattle.aes.proofs.word_at.Statement as aes-word-at
+use Rattle.aes.proofs.put_word.Statement as aes-put-word
+use Rattle.aes.proofs.expand.Statement as aes-expand
+use Rattle.aes.proofs.unmix.Statement as aes-unmix
+use Rattle.aes.proofs.wipe.Statement as aes-wipe
+use Rattle.aes.proofs.cipher_by.Statement as aes-cipher-by
+use Rattle.aes.proofs.inv_cipher_by.Statement as aes-inv-cipher-by
+use Rattle.aes.proofs.cipher.Statement as aes-cipher
+use Rattle.aes.proofs.inv_cipher.Statement as aes-inv-cipher
+use Rattle.wrap.proofs.wrap.Statement as wrap-wrap
+use Rattle.wrap.proofs.unwrap.Statement as wrap-unwrap
 use Rattle.discovery.proofs.own_fields.Statement as discovery-own-fields
 use Rattle.discovery.proofs.write.Statement as discovery-write
 use Rattle.discovery.proofs.read.Statement as discovery-read
@@ -56,6 +71,21 @@ pub record Defined (M : Type 1) : Type 2 where
   pub cells-all-zero-ends : cells-all-zero.statement M
   pub cells-zero-part-ends : cells-zero-part.statement M
   pub cells-same-part-ends : cells-same-part.statement M
+  pub aes-sub-table-ends : aes-sub-table.statement M
+  pub aes-inv-sub-table-ends : aes-inv-sub-table.statement M
+  pub aes-mix-table-ends : aes-mix-table.statement M
+  pub aes-inv-mix-table-ends : aes-inv-mix-table.statement M
+  pub aes-word-at-ends : aes-word-at.statement M
+  pub aes-put-word-ends : aes-put-word.statement M
+  pub aes-expand-ends : aes-expand.statement M
+  pub aes-unmix-ends : aes-unmix.statement M
+  pub aes-wipe-ends : aes-wipe.statement M
+  pub aes-cipher-by-ends : aes-cipher-by.statement M
+  pub aes-inv-cipher-by-ends : aes-inv-cipher-by.statement M
+  pub aes-cipher-ends : aes-cipher.statement M
+  pub aes-inv-cipher-ends : aes-inv-cipher.statement M
+  pub wrap-wrap-ends : wrap-wrap.statement M
+  pub wrap-unwrap-ends : wrap-unwrap.statement M
   pub discovery-own-fields-ends : discovery-own-fields.statement M
   pub discovery-write-ends : discovery-write.statement M
   pub discovery-read-ends : discovery-read.statement M

@@ -29,6 +29,22 @@ use Rattle.cells.proofs.equal.Reads as cells-equal
 use Rattle.cells.proofs.all_zero.Reads as cells-all-zero
 use Rattle.cells.proofs.zero_part.Reads as cells-zero-part
 use Rattle.cells.proofs.same_part.Reads as cells-same-part
+use Rattle.aes.specs.declared.Block.{Block}
+use Rattle.aes.proofs.sub_table.Reads as aes-sub-table
+use Rattle.aes.proofs.inv_sub_table.Reads as aes-inv-sub-table
+use Rattle.aes.proofs.mix_table.Reads as aes-mix-table
+use Rattle.aes.proofs.inv_mix_table.Reads as aes-inv-mix-table
+use Rattle.aes.proofs.word_at.Reads as aes-word-at
+use Rattle.aes.proofs.put_word.Reads as aes-put-word
+use Rattle.aes.proofs.expand.Reads as aes-expand
+use Rattle.aes.proofs.unmix.Reads as aes-unmix
+use Rattle.aes.proofs.wipe.Reads as aes-wipe
+use Rattle.aes.proofs.cipher_by.Reads as aes-cipher-by
+use Rattle.aes.proofs.inv_cipher_by.Reads as aes-inv-cipher-by
+use Rattle.aes.proofs.cipher.Reads as aes-cipher
+use Rattle.aes.proofs.inv_cipher.Reads as aes-inv-cipher
+use Rattle.wrap.proofs.wrap.Reads as wrap-wrap
+use Rattle.wrap.proofs.unwrap.Reads as wrap-unwrap
 use Rattle.ttlv.specs.declared.Front.{Front}
 use Rattle.ttlv.specs.declared.ListRead.{ListRead}
 use Rattle.ttlv.specs.declared.Written.{Written}
@@ -108,6 +124,52 @@ Tight-cells-zero-part = Tight {Left = List ℕ} cells-zero-part.Asked cells-zero
 
 abbrev pub Tight-cells-same-part : Type 0
 Tight-cells-same-part = Tight {Left = Bool} cells-same-part.Asked cells-same-part.Learnt (λ κs result exit. result)
+
+abbrev pub Tight-aes-sub-table : Type 0
+Tight-aes-sub-table = Tight {Left = List ℕ} aes-sub-table.Asked aes-sub-table.Learnt (λ κs result exit. result)
+
+abbrev pub Tight-aes-inv-sub-table : Type 0
+Tight-aes-inv-sub-table = Tight {Left = List ℕ} aes-inv-sub-table.Asked aes-inv-sub-table.Learnt (λ κs result exit. result)
+
+abbrev pub Tight-aes-mix-table : Type 0
+Tight-aes-mix-table = Tight {Left = List ℕ} aes-mix-table.Asked aes-mix-table.Learnt (λ κs result exit. result)
+
+abbrev pub Tight-aes-inv-mix-table : Type 0
+Tight-aes-inv-mix-table = Tight {Left = List ℕ} aes-inv-mix-table.Asked aes-inv-mix-table.Learnt (λ κs result exit. result)
+
+abbrev pub Tight-aes-word-at : Type 0
+Tight-aes-word-at = Tight {Left = ℕ} aes-word-at.Asked aes-word-at.Learnt (λ κs result exit. result)
+
+abbrev pub Tight-aes-put-word : Type 0
+Tight-aes-put-word = Tight {Left = List ℕ} aes-put-word.Asked aes-put-word.Learnt (λ κs result exit. now (exit .0))
+
+abbrev pub Tight-aes-expand : Type 0
+Tight-aes-expand = Tight {Left = List ℕ} aes-expand.Asked aes-expand.Learnt (λ κs result exit. now (exit .1 .0))
+
+abbrev pub Tight-aes-unmix : Type 0
+Tight-aes-unmix = Tight {Left = List ℕ} aes-unmix.Asked aes-unmix.Learnt (λ κs result exit. now (exit .0))
+
+abbrev pub Tight-aes-wipe : Type 0
+Tight-aes-wipe = Tight {Left = List ℕ} aes-wipe.Asked aes-wipe.Learnt (λ κs result exit. now (exit .0))
+
+abbrev pub Tight-aes-cipher-by : Type 0
+Tight-aes-cipher-by = Tight {Left = Block} aes-cipher-by.Asked aes-cipher-by.Learnt (λ κs result exit. result)
+
+abbrev pub Tight-aes-inv-cipher-by : Type 0
+Tight-aes-inv-cipher-by = Tight {Left = Block} aes-inv-cipher-by.Asked aes-inv-cipher-by.Learnt (λ κs result exit. result)
+
+abbrev pub Tight-aes-cipher : Type 0
+Tight-aes-cipher = Tight {Left = Block × List ℕ} aes-cipher.Asked aes-cipher.Learnt (λ κs result exit. (result, now (exit .1 .0)))
+
+abbrev pub Tight-aes-inv-cipher : Type 0
+Tight-aes-inv-cipher = Tight {Left = Block × List ℕ} aes-inv-cipher.Asked aes-inv-cipher.Learnt (λ κs result exit. (result, now (exit .1 .0)))
+
+abbrev pub Tight-wrap-wrap : Type 0
+Tight-wrap-wrap = Tight {Left = List ℕ × List ℕ} wrap-wrap.Asked wrap-wrap.Learnt (λ κs result exit. (now (exit .1 .0), now (exit .1 .1 .0)))
+
+abbrev pub Tight-wrap-unwrap : Type 0
+Tight-wrap-unwrap =
+    Tight {Left = Bool × (List ℕ × List ℕ)} wrap-unwrap.Asked wrap-unwrap.Learnt (λ κs result exit. (result, (now (exit .1 .0), now (exit .1 .1 .0))))
 
 abbrev pub Tight-discovery-own-fields : Type 0
 Tight-discovery-own-fields = Tight {Left = DiscoveryFields} discovery-own-fields.Asked discovery-own-fields.Learnt (λ κs result exit. result)

@@ -8,6 +8,7 @@ pub mod FeaturesLaws
 pub mod PlacesLaws
 pub mod InsertedLaws
 pub mod KmipLaws
+pub mod AesLaws
 pub mod FramesLaws
 pub mod SlotsLaws
 pub mod SoundLaws

@@ -24,6 +24,10 @@ uidMost = 16
 abbrev pub keySize : ℕ
 keySize = 32
 
+-- a wrapped key has eight bytes more: 40
+abbrev pub wrappedSize : ℕ
+wrappedSize = 8 + keySize
+
 -- a slot: the KeyUID's length, the KeyUID padded with zeros, the key
 abbrev pub slotWidth : ℕ
 slotWidth = 1 + uidMost + keySize
