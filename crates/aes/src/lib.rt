@@ -18,6 +18,8 @@ mod columns;
 mod keys;
 mod tables;
 
+use rules::KEY_SIZE;
+
 // Four words: the columns of a state.
 pub struct Block {
     pub a: u32,
@@ -26,9 +28,7 @@ pub struct Block {
     pub d: u32,
 }
 
-// Bytes of a key, and words of its round keys.
-const KEY_SIZE: usize = 32;
-
+// Words of a key's round keys.
 pub const SCHEDULE: usize = 60;
 
 // The substitution, its inverse, and both with the mixing.

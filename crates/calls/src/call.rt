@@ -1,5 +1,6 @@
 // One call of the library, and what its line of text says after the label.
 use crate::Cache;
+use crate::KEK;
 use crate::MOST;
 use crate::Marks;
 use crate::ROOM;
@@ -11,6 +12,7 @@ use drive::Answered;
 use drive::Reply;
 use rules::CACHE_SIZE;
 use rules::Registers;
+use rules::SLOTS_SIZE;
 
 fn same_registers(a: Registers, b: Registers) -> bool {
     let x = show::registers(a);
@@ -73,12 +75,23 @@ pub(crate) fn line(
 fn lend_start(keys: &mut [u8], marks: &mut [u8], store: usize, cache: usize) -> Answered {
     let k = least(cache, keys.len());
     let n = least(store, marks.len());
-    drive::start(&mut keys[0..k], &mut marks[0..n])
+    let kek = KEK;
+    drive::start(&kek, &mut keys[0..k], &mut marks[0..n])
 }
 
 fn all_zero(marks: &[u8], store: usize) -> bool {
     let n = least(store, marks.len());
     cells::all_zero(&marks[0..n])
+}
+
+// No keys, and the key-encryption key of a start behind them.
+fn fresh_cache(keys: &[u8]) -> bool {
+    let kek = KEK;
+    let k = least(SLOTS_SIZE, keys.len());
+    if !cells::all_zero(&keys[0..k]) {
+        return false;
+    }
+    cells::equal(&keys[k..], &kek)
 }
 
 // A call of start: number, whether the state is fresh, whether the store stayed, and whether the lent part is zeros.
@@ -91,7 +104,7 @@ pub(crate) fn start(keys: &mut Cache, marks: &mut Marks, store: usize, cache: us
     let after = left.registers;
     show::number(answer);
     let small = same_registers(after, made::fresh());
-    let empty = cells::all_zero(keys);
+    let empty = fresh_cache(keys);
     show::where_so(b" fresh", small && empty);
     let same = same_marks(marks, &kept);
     show::same_or_changed(b" marks", same);

@@ -16,7 +16,7 @@ use Rattle.rules.specs.declared.Tag.{Tag}
 use Rattle.rules.specs.declared.Registers.{Registers}
 use Rattle.rules.specs.declared.Refusal.{Refusal}
 use Rattle.rules.specs.Numbers.{slotWidth, slotPlaces, cacheSize, uidMost, keySize, digitsMost}
-use Rattle.rules.specs.Checks.{_when_, Verdict, passed, refused, firstRefusal, settle, judged}
+use Rattle.rules.specs.Checks.{_when_, AllPass, Verdict, passed, refused, firstRefusal, settle, judged}
 use Rattle.rules.specs.Answers.{07·09, 07·0A, 07·0B, 07·0C}
 use Rattle.rules.specs.State.{State, Outcome, refuse, obey}
 use Rattle.rules.specs.Slots.{Contents, placeOf, empty, loaded, uidOf, otherKey}
@@ -65,17 +65,21 @@ module _ (d : Registers) (keys marks : List ℕ) (ns : Namespace) (tag : Tag) wh
   s = state d keys marks
 
   -- the shared checks' refusal stands
-  refused-by : (r : Refusal) (o : Outcome) → found.Refused r ≡ located (state d [] []) ns tag → judged (slotChecks s ns tag) (refuse s) o ≡ refuse s r
+  pub refused-by : (r : Refusal) (o : Outcome) → found.Refused r ≡ located (state d [] []) ns tag → judged (slotChecks s ns tag) (refuse s) o ≡ refuse s r
   unfolding located
   refused-by r o e = ap (λ v. settle v (refuse s) o) (verdict-of (firstRefusal (slotChecks s ns tag)) (placeOf ns tag) r e)
 
   -- or they pass, and the place is the slot's
-  found-by : (q : ℕ) (f : ℕ → Outcome) → found.Place q ≡ located (state d [] []) ns tag
+  pub found-by : (q : ℕ) (f : ℕ → Outcome) → found.Place q ≡ located (state d [] []) ns tag
       → judged (slotChecks s ns tag) (refuse s) (f (placeOf ns tag)) ≡ f q
   unfolding located
   found-by q f e =
       let p = place-of (firstRefusal (slotChecks s ns tag)) (placeOf ns tag) q e in
       ap (λ v. settle v (refuse s) (f (placeOf ns tag))) (p .0) ∙ ap f (sym (p .1))
+
+  pub found-passes : (q : ℕ) → found.Place q ≡ located (state d [] []) ns tag → AllPass (slotChecks (state d [] []) ns tag)
+  unfolding located
+  found-passes q e = then-pass (slotChecks s ns tag) (place-of (firstRefusal (slotChecks s ns tag)) (placeOf ns tag) q e .0)
 
   pub found-small : (q : ℕ) → found.Place q ≡ located (state d [] []) ns tag → unsound (state d keys []) ≡ false → q < slotPlaces
   unfolding located
@@ -142,11 +146,11 @@ abbrev blank : List ℕ
 blank = zeros (digitsMost / 2)
 
 pub wiped : (line f : List ℕ) (n : ℕ) {z : List ℕ} → length line / 2 ≤ n → 5 + uidMost + keySize ≤ n → n ≤ digitsMost / 2
-    → z ≡ zeros (length (take n f)) → length f ≡ digitsMost / 2 → f ≡ readFrom line blank .frame → z ++ drop n f ≡ blank
+    → z ≡ zeros (length (take n f)) → length f ≡ digitsMost / 2 → drop n f ≡ drop n (readFrom line blank .frame) → z ++ drop n f ≡ blank
 wiped line f n digits loads inside e size left =
     let k : n + (digitsMost / 2 - n) ≡ digitsMost / 2 = omega arith in
     let stays : drop n f ≡ zeros (digitsMost / 2 - n) =
-    ap (drop n) left
+    left
     ∙ reading-stays line blank n (λ h. digits) loads (omega (arith, length-zeros (digitsMost / 2)))
     ∙ rest-of-zeros n (digitsMost / 2) inside in
     rw (e, length-take-le n f (omega arith), stays) (zeros-join n (digitsMost / 2 - n) ∙ ap zeros k)

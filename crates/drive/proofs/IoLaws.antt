@@ -26,7 +26,7 @@ use Rattle.rules.specs.Answers.{00·01, 00·02, 00·0B, 00·25, 00·28, 00·80}
 use Rattle.rules.specs.State.{State, Outcome, refuse, obey, noNamespace, count, managed, tagAbove, IsNamespace}
 use Rattle.rules.specs.Slots.{placeOf, slot, padded, empty, uidOf, held, IsSlot}
 use Rattle.rules.specs.Marks.{blockOf, keptIdentity, identityOf}
-use Rattle.rules.specs.Sound.{slotUnsound}
+use Rattle.rules.specs.Sound.{slotUnsound, unsound}
 use Rattle.rules.specs.Effects.{markCovered, onlyWhen}
 use Rattle.rules.specs.Order.{command, isWrite, isReading, commandChecks, keyChecks, markCheck, wrongKey}
 use Rattle.rules.proofs.ChecksLaws.{judged-append, judged-cases}
@@ -172,6 +172,13 @@ module _ (s : State) (c : Command) where
     tag-refused r e =
         let p = refused-place above (placeOf (c .ns) (c .tag)) r e in
         rw (eq-eqb (c .cetype) 1 one, above-is true (p .0), p .1)
+
+    -- of a sound drive it is a slot's
+    pub tag-inside : unsound s ≡ false → IsNamespace (c .ns) → (q : ℕ) → found.Place q ≡ placedBy n (c .ns) (c .tag) → q < slotPlaces
+    unfolding placedBy
+    tag-inside sound is-ns q e =
+        let p = found-place above (placeOf (c .ns) (c .tag)) q e in
+        rw (p .1) (place-small (c .ns) (c .tag) (named-slot s sound (c .ns) (c .tag) is-ns (above-is false (p .0))))
 
     pub tag-found : (q : ℕ) → found.Place q ≡ placedBy n (c .ns) (c .tag)
         → judged (00·25 when empty (cell slotWidth q (s .keys)) ∷ []) Refused (Place q) ≡ keyed s c

@@ -4,3 +4,4 @@ pub mod IoLaws
 pub mod KeysLaws
 pub mod LinesLaws
 pub mod RunningLaws
+pub mod WrappedLaws

@@ -3,16 +3,16 @@
 use mathlib.Core.Path.{_≡_}
 use mathlib.Core.Bool.{Bool, true, false, not, _||_, cond}
 use mathlib.Core.List.{List, [], _∷_}
-use Prim.Native.Nat.{ℕ}
+use Prim.Native.Nat.{ℕ, _+_}
 use lib.Dec.{eqb, leb}
-use Rattle.cells.specs.Cells.{cell, put}
+use Rattle.cells.specs.Cells.{part, cell, put}
 use Rattle.cells.specs.Predicates.{same}
 use Rattle.rules.specs.declared.Namespace.{Namespace}
 use Rattle.rules.specs.declared.Tag.{Tag}
 use Rattle.rules.specs.declared.Command.{Command}
 use Rattle.rules.specs.declared.Registers.{Registers}
 use Rattle.rules.specs.declared.Answer.the-variants.{Done}
-use Rattle.rules.specs.Numbers.{slotWidth}
+use Rattle.rules.specs.Numbers.{slotWidth, uidMost, keySize}
 use Rattle.rules.specs.Checks.{_when_, judged}
 use Rattle.rules.specs.Answers.{00·0B, 00·25, 00·80, 07·09, 07·0A, 07·0B, 07·0C}
 use Rattle.rules.specs.State.{State, Sized, Outcome, refuse, obey, noNamespace, managed}
@@ -57,6 +57,14 @@ Sound registers keys = unsound (state registers keys []) ≡ false
 abbrev pub acted : State → Meant → Outcome
 acted s (frame f) = obey s (frameRule s f)
 acted s (refusal r) = refuse s r
+
+-- the longest frame without a message
+abbrev pub replaceMost : ℕ
+replaceMost = 6 + uidMost + uidMost + keySize
+
+-- a wrapped key that was opened where it lay: the KeyUID's l bytes lie from byte 5 on, the integrity value and the key behind them
+abbrev pub openedAt : ℕ → List ℕ → Contents
+openedAt l f = record { uid = part 5 l f; key = part (5 + l + 8) keySize f }
 
 -- ------------------------------------------------------------------------
 -- The checks that load, replace and clear one begin with

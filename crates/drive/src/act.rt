@@ -2,7 +2,7 @@
 ghost use mathlib.Core.Path.{_≡_};
 ghost use mathlib.Core.List.{List};
 ghost use Prim.Native.Nat.{ℕ, _+_, _/_, _≤_};
-ghost use lib.ListN.{length};
+ghost use lib.ListN.{length, drop};
 ghost use Rattle.cells.specs.Cells.{part, zeros};
 ghost use Rattle.rules.specs.Numbers.{keySize, uidMost, digitsMost};
 ghost use Rattle.rules.specs.State.{obey};
@@ -10,12 +10,14 @@ ghost use Rattle.rules.specs.Slots.{FitKey};
 ghost use Rattle.rules.specs.Frames.{contentsAt};
 ghost use Rattle.rules.specs.Order.{step, load as loadRule, replace as replaceRule, discovery as discoveryRule};
 ghost use Rattle.frames.specs.Reading.{meant, Lies, readFrom};
-ghost use Rattle.drive.specs.Acting.{state, outcome, Ready, Sound, acted};
+ghost use Rattle.drive.specs.Acting.{state, outcome, Ready, Sound, acted, replaceMost};
 use crate::Answered;
 use crate::answers::refused;
 use crate::boot;
 use crate::io;
 use crate::keys;
+use crate::wrapped;
+use aes::SCHEDULE;
 use frames::BROUGHT_MOST;
 use frames::FrameRead;
 use rules::Answer;
@@ -38,10 +40,10 @@ fn load(
     tag: Tag,
     l: usize,
 ) -> Answered
-    requires { ⌜ Sound registers (now keys) × (FitKey (contentsAt 5 l (now f)) × (5 + l + keySize ≤ length (now f))) ⌝ }
+    requires { ⌜ Sound registers (now keys) × (FitKey (contentsAt keySize 5 l (now f)) × (5 + l + keySize ≤ length (now f))) ⌝ }
     ensures { λ r. ⌜ ((marks : List ℕ) → outcome r (now (keys .exit)) marks
         ≡ obey (state registers (now (keys .entry)) marks)
-        (loadRule (state registers (now (keys .entry)) marks) ns tag (contentsAt 5 l (now (f .entry))))) ⌝ }
+        (loadRule (state registers (now (keys .entry)) marks) ns tag (contentsAt keySize 5 l (now (f .entry))))) ⌝ }
 {
     let u = 5 + l;
     let e = u + KEY_SIZE;
@@ -58,10 +60,10 @@ fn replace(
     o: usize,
     l: usize,
 ) -> Answered
-    requires { ⌜ Sound registers (now keys) × (FitKey (contentsAt (6 + o) l (now f)) × (6 + o + l + keySize ≤ length (now f))) ⌝ }
+    requires { ⌜ Sound registers (now keys) × (FitKey (contentsAt keySize (6 + o) l (now f)) × (6 + o + l + keySize ≤ length (now f))) ⌝ }
     ensures { λ r. ⌜ ((marks : List ℕ) → outcome r (now (keys .exit)) marks
         ≡ obey (state registers (now (keys .entry)) marks)
-        (replaceRule (state registers (now (keys .entry)) marks) ns tag (part 5 o (now (f .entry))) (contentsAt (6 + o) l (now (f .entry))))) ⌝ }
+        (replaceRule (state registers (now (keys .entry)) marks) ns tag (part 5 o (now (f .entry))) (contentsAt keySize (6 + o) l (now (f .entry))))) ⌝ }
 {
     let t = 5 + o;
     let u = 6 + o;
@@ -86,17 +88,23 @@ fn act(
     registers: Registers,
     keys: &mut [u8],
     marks: &mut [u8],
-    f: &[u8],
+    f: &mut [u8],
     read: FrameRead,
+    words: &mut [u32; SCHEDULE],
 ) -> Answered
     requires { ⌜ Ready registers (now keys) (now marks) × Lies (now f) read ⌝ }
-    ensures { λ r. ⌜ outcome r (now (keys .exit)) (now (marks .exit))
-        ≡ acted (state registers (now (keys .entry)) (now (marks .entry))) (meant (now (f .entry)) read) ⌝ }
+    ensures { λ r. ⌜ (outcome r (now (keys .exit)) (now (marks .exit))
+        ≡ acted (state registers (now (keys .entry)) (now (marks .entry))) (meant (now (f .entry)) read))
+        × (drop replaceMost (now (f .exit)) ≡ drop replaceMost (now (f .entry)))
+        × (now (words .entry) ≡ zeros 60 → now (words .exit) ≡ zeros 60) ⌝ }
 {
     match read {
         FrameRead::Manage(ns, tags) => keys::manage(registers, ns, tags),
         FrameRead::Release(ns) => keys::release(registers, keys, marks, ns),
         FrameRead::Load(ns, tag, l) => load(registers, keys, f, ns, tag, l),
+        FrameRead::LoadWrapped(ns, tag, l) => {
+            wrapped::load(registers, keys, f, ns, tag, l, words)
+        }
         FrameRead::Replace(ns, tag, o, l) => replace(registers, keys, f, ns, tag, o, l),
         FrameRead::ClearOne(ns, tag) => keys::clear_one(registers, keys, ns, tag),
         FrameRead::ClearAll(ns) => keys::clear_all(registers, keys, ns),
@@ -110,11 +118,11 @@ fn act(
     }
 }
 
-// Zeroes what the reading of a line left in a frame of zeros: it may hold a key. A line that is no longer than a replace may be leaves the
+// Zeroes what the reading of a line, or the opening of a wrapped key, left in a frame of zeros: it may hold a key. A line that is no longer than a replace may be leaves the
 // rest alone. (Here, behind a reference, the stores stay; in the function that has the frame the compiler drops them.)
 fn wipe(frame: &mut [u8], line: &[u8])
     requires { ⌜ length (now frame) ≡ digitsMost / 2 ⌝ }
-    ensures { λ _. ⌜ (now (frame .entry) ≡ readFrom (now (line .entry)) (zeros (digitsMost / 2)) .frame
+    ensures { λ _. ⌜ (drop replaceMost (now (frame .entry)) ≡ drop replaceMost (readFrom (now (line .entry)) (zeros (digitsMost / 2)) .frame)
         → now (frame .exit) ≡ zeros (digitsMost / 2)) ⌝ }
 {
     cells::fill_zero(&mut frame[..REPLACE_MOST]);
@@ -123,7 +131,8 @@ fn wipe(frame: &mut [u8], line: &[u8])
     }
 }
 
-// A line. Its bytes go to the front of the frame of zeros that is lent, and are wiped there; so is what a message brought.
+// A line. Its bytes go to the front of the frame of zeros that is lent, and are wiped there; so are what a message brought
+// and the round keys of a wrapped load.
 pub(crate) fn on_line(
     registers: Registers,
     keys: &mut [u8],
@@ -131,15 +140,17 @@ pub(crate) fn on_line(
     line: &[u8],
     frame: &mut [u8; FRAME_MOST],
     brought: &mut [u8; BROUGHT_MOST],
+    words: &mut [u32; SCHEDULE],
 ) -> Answered
-    requires { ⌜ Ready registers (now keys) (now marks) × (now frame ≡ zeros (digitsMost / 2)) ⌝ }
+    requires { ⌜ Ready registers (now keys) (now marks) × (now frame ≡ zeros (digitsMost / 2)) × (now words ≡ zeros 60) ⌝ }
     ensures { λ r. ⌜ (outcome r (now (keys .exit)) (now (marks .exit))
         ≡ step (state registers (now (keys .entry)) (now (marks .entry))) (now (line .entry)))
         × (now (frame .exit) ≡ zeros (digitsMost / 2))
-        × (now (brought .exit) ≡ zeros (uidMost + keySize)) ⌝ }
+        × (now (brought .exit) ≡ zeros (uidMost + keySize))
+        × (now (words .exit) ≡ zeros 60) ⌝ }
 {
     let read = frames::read(line, frame, brought);
-    let told = act(registers, keys, marks, frame, read);
+    let told = act(registers, keys, marks, frame, read, words);
     wipe(frame, line);
     told
 }

@@ -9,7 +9,7 @@ ghost use Rattle.rules.specs.Numbers.{blocksEach, slotWidth, slotPlaces, cacheS
 ghost use Rattle.rules.specs.Marks.{blockOf};
 ghost use Rattle.rules.specs.Order.{command as commandRule, outOfRange};
 ghost use Rattle.marks.specs.Store.{someDiffers, marked};
-ghost use Rattle.drive.specs.Acting.{state, outcome, Ready, accessOf, keyed, reached, Known};
+ghost use Rattle.drive.specs.Acting.{state, outcome, Ready, accessOf, keyed, reached, Known, Sound};
 use crate::Access;
 use crate::Answered;
 use crate::Found;
@@ -48,7 +48,7 @@ fn out_of_range(c: Command) -> bool
 
 // The key checks of a managed namespace with n tags.
 fn key_place(registers: Registers, keys: &[u8], c: Command, n: u8) -> Reach
-    requires { ⌜ (length (now keys) ≡ cacheSize) × (IsNamespace (c .ns) × (n ≡ countOf (state registers [] []) (c .ns))) ⌝ }
+    requires { ⌜ Sound registers (now keys) × (IsNamespace (c .ns) × (n ≡ countOf (state registers [] []) (c .ns))) ⌝ }
     ensures { λ r. ⌜ r ≡ keyed (state registers (now (keys .entry)) []) c ⌝ }
 {
     if c.cetype != 1 {
@@ -67,7 +67,7 @@ fn key_place(registers: Registers, keys: &[u8], c: Command, n: u8) -> Reach
 
 // The checks of a command with a known opcode, up to the marks.
 fn reach(registers: Registers, keys: &[u8], c: Command) -> Reach
-    requires { ⌜ length (now keys) ≡ cacheSize ⌝ }
+    requires { ⌜ Sound registers (now keys) ⌝ }
     ensures { λ r. ⌜ r ≡ reached (state registers (now (keys .entry)) []) c ⌝ }
 {
     if no_namespace(c.ns) {

@@ -3,7 +3,7 @@
 ghost use mathlib.Core.Path.{_≡_};
 ghost use Prim.Native.Nat.{_≤_};
 ghost use lib.ListN.{length};
-ghost use Rattle.rules.specs.Start.{start as started};
+ghost use Rattle.rules.specs.Start.{emptiedCache, start as started};
 ghost use Rattle.rules.specs.Call.{call, answered, roomFor};
 ghost use Rattle.rules.specs.Sessions.{session};
 ghost use Rattle.drive.specs.Acting.{state, outcome, Ready};
@@ -16,14 +16,18 @@ mod io;
 mod keys;
 mod lines;
 mod running;
+mod wrapped;
 
+use aes::SCHEDULE;
 use frames::BROUGHT_MOST;
 use rules::Answer;
 use rules::CACHE_SIZE;
 use rules::FRAME_MOST;
+use rules::KEK_SIZE;
 use rules::NAMESPACES;
 use rules::Refusal;
 use rules::Registers;
+use rules::SLOTS_SIZE;
 use rules::STORE_SIZE;
 
 // An answer, and the registers after it.
@@ -73,11 +77,22 @@ pub(crate) enum Admission {
     Refused(Refusal),
 }
 
-// Starts a fresh drive: a cache of the right length emptied, and then a store of the right length zeroed. What has another length stays.
-pub fn start(keys: &mut [u8], marks: &mut [u8]) -> Answered
-    ensures { λ r. ⌜ outcome r (now (keys .exit)) (now (marks .exit)) ≡ started (now (keys .entry)) (now (marks .entry)) ⌝ }
+// A cache of the right length with no keys, and with this key-encryption key; any other stays.
+fn emptied(kek: &[u8; KEK_SIZE], keys: &mut [u8])
+    ensures { λ _. ⌜ now (keys .exit) ≡ emptiedCache (now (kek .entry)) (now (keys .entry)) ⌝ }
 {
+    if keys.len() != CACHE_SIZE {
+        return;
+    }
     slots::clear_all(keys);
+    cells::copy(&mut keys[SLOTS_SIZE..], kek);
+}
+
+// Starts a fresh drive: a cache of the right length emptied, and then a store of the right length zeroed. What has another length stays.
+pub fn start(kek: &[u8; KEK_SIZE], keys: &mut [u8], marks: &mut [u8]) -> Answered
+    ensures { λ r. ⌜ outcome r (now (keys .exit)) (now (marks .exit)) ≡ started (now (kek .entry)) (now (keys .entry)) (now (marks .entry)) ⌝ }
+{
+    emptied(kek, keys);
     let counts = [0u8; NAMESPACES];
     let locks = locks::both_locked();
     let registers = Registers { counts, locks };
@@ -110,7 +125,16 @@ fn on_ready(
 {
     let mut frame = [0u8; FRAME_MOST];
     let mut brought = [0u8; BROUGHT_MOST];
-    let told = act::on_line(registers, keys, marks, line, &mut frame, &mut brought);
+    let mut words = [0u32; SCHEDULE];
+    let told = act::on_line(
+        registers,
+        keys,
+        marks,
+        line,
+        &mut frame,
+        &mut brought,
+        &mut words,
+    );
     let answer = told.answer;
     let registers = told.registers;
     let bytes = digits::write_answer(answer, out);

@@ -7,13 +7,14 @@ ghost use Rattle.drive.specs.Acting.{state, Ready};
 use crate::SessionReply;
 use crate::act::on_line;
 use crate::lines::next_line;
+use aes::SCHEDULE;
 use frames::BROUGHT_MOST;
 use rules::Answer;
 use rules::FRAME_MOST;
 use rules::Registers;
 
 // Answers each line; each answer goes to the part of the output that starts where the last one ended. One frame serves all lines, and so do
-// the bytes for what a message brings.
+// the bytes for what a message brings and the words for round keys.
 pub(crate) fn run(
     registers: Registers,
     keys: &mut [u8],
@@ -33,6 +34,7 @@ pub(crate) fn run(
 {
     let mut frame = [0u8; FRAME_MOST];
     let mut brought = [0u8; BROUGHT_MOST];
+    let mut words = [0u32; SCHEDULE];
     let mut registers = registers;
     let mut at = 0;
     let mut lines = 0;
@@ -47,6 +49,7 @@ pub(crate) fn run(
             &text[at..end],
             &mut frame,
             &mut brought,
+            &mut words,
         );
         registers = told.registers;
         let answer = told.answer;

@@ -15,8 +15,8 @@ use Rattle.rules.specs.Numbers.{uidMost, keySize}
 use Rattle.rules.specs.Answers.{07·03, 07·04}
 use Rattle.rules.specs.Fields.{byte, bytes}
 use Rattle.rules.specs.State.{namespace, keyTag}
-use Rattle.rules.specs.Frames.{Frame, exactly, badUidLength, readLoad, readReplace, unknownKind, kinds}
-use Rattle.frames.specs.declared.FrameRead.the-variants.{Load, Replace, Refused}
+use Rattle.rules.specs.Frames.{Frame, Reading, exactly, badUidLength, loadChecks, readReplace, unknownKind, kinds}
+use Rattle.frames.specs.declared.FrameRead.the-variants.{Replace, Refused}
 use Rattle.frames.specs.Reading.{numbersOf, numbered}
 
 -- ------------------------------------------------------------------------
@@ -53,9 +53,28 @@ module _ (l : ℕ) where
 -- numbers where all pass
 
 module _ (f : List ℕ) where
-  pub load-short : length f < 5 → Refused 07·03 ≡ numbered (readLoad f)
-  unfolding numbered readLoad
-  load-short h = rw (lt-ltb (length f) 5 h)
+  -- a load, clear or wrapped, by the bytes behind the KeyUID
+  module _ (size : ℕ) (frame : Frame) where
+    abbrev loading : Reading
+    loading = record { checks = loadChecks size f; frame = frame }
+
+    pub load-short : length f < 5 → Refused 07·03 ≡ numbered loading
+    unfolding numbered
+    load-short h = rw (lt-ltb (length f) 5 h)
+
+    module _ (head : 5 ≤ length f) where
+      pub load-bad : badUidLength (byte 4 f) ≡ true → Refused 07·04 ≡ numbered loading
+      unfolding numbered
+      load-bad bad = rw (le-ltb (length f) 5 head, bad)
+
+      module _ (good : badUidLength (byte 4 f) ≡ false) where
+        pub load-wrong : (length f ≡ 5 + byte 4 f + size → ⊥) → Refused 07·03 ≡ numbered loading
+        unfolding numbered
+        load-wrong h = rw (le-ltb (length f) 5 head, good, ne-eqb (length f) (5 + byte 4 f + size) h)
+
+        pub load-right : length f ≡ 5 + byte 4 f + size → numbersOf frame ≡ numbered loading
+        unfolding numbered
+        load-right h = rw (le-ltb (length f) 5 head, good, eq-eqb (length f) (5 + byte 4 f + size) h)
 
   pub replace-short : length f < 5 → Refused 07·03 ≡ numbered (readReplace f)
   unfolding numbered readReplace
@@ -65,24 +84,11 @@ module _ (f : List ℕ) where
     abbrev first : ℕ
     first = byte 4 f
 
-    pub load-bad : badUidLength first ≡ true → Refused 07·04 ≡ numbered (readLoad f)
-    unfolding numbered readLoad
-    load-bad bad = rw (le-ltb (length f) 5 head, bad)
-
     pub replace-bad-old : badUidLength first ≡ true → Refused 07·04 ≡ numbered (readReplace f)
     unfolding numbered readReplace
     replace-bad-old bad = rw (le-ltb (length f) 5 head, bad)
 
     module _ (good : badUidLength first ≡ false) where
-      pub load-wrong : (length f ≡ 5 + first + keySize → ⊥) → Refused 07·03 ≡ numbered (readLoad f)
-      unfolding numbered readLoad
-      load-wrong h = rw (le-ltb (length f) 5 head, good, ne-eqb (length f) (5 + first + keySize) h)
-
-      pub load-right : length f ≡ 5 + first + keySize → Load (namespace (byte 1 f)) (keyTag (bytes 2 3 f)) first ≡ numbered (readLoad f)
-      unfolding numbered readLoad
-      load-right h =
-          rw (le-ltb (length f) 5 head, good, eq-eqb (length f) (5 + first + keySize) h, length-part 5 first f (omega arith))
-
       pub replace-no-new : length f < 6 + first → Refused 07·03 ≡ numbered (readReplace f)
       unfolding numbered readReplace
       replace-no-new h = rw (le-ltb (length f) 5 head, good, lt-ltb (length f) (6 + first) h)
@@ -120,6 +126,6 @@ past : (k n : ℕ) → NoneTo k n → (k ≡ 0 → ⊥) → n < k
 past k zero r z = omega arith
 past k (suc n) r z = omega (arith, past k n (r .0) z, r .1)
 
-pub no-kind : (f : List ℕ) (k : ℕ) → NoneTo k 13 → (k ≡ 0 → ⊥) → getD (kinds f) k unknownKind ≡ unknownKind
+pub no-kind : (f : List ℕ) (k : ℕ) → NoneTo k 14 → (k ≡ 0 → ⊥) → getD (kinds f) k unknownKind ≡ unknownKind
 unfolding kinds
-no-kind f k r z = List·getD-eq-default (kinds f) unknownKind (past k 13 r z)
+no-kind f k r z = List·getD-eq-default (kinds f) unknownKind (past k 14 r z)

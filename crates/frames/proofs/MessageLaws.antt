@@ -23,7 +23,7 @@ use Rattle.rules.specs.Fields.{byte, bytes, little}
 use Rattle.rules.specs.State.{namespace, keyTag}
 use Rattle.rules.specs.Slots.{Contents}
 use Rattle.rules.specs.Kmip.{loadOf}
-use Rattle.rules.specs.Frames.{Reading, load, badUidLength, bringsNothing, brought, readLoad, readReplace, readMessage, unknownKind, kinds, readFrame}
+use Rattle.rules.specs.Frames.{Reading, load, badUidLength, bringsNothing, brought, readLoad, readWrapped, readReplace, readMessage, unknownKind, kinds, readFrame}
 use Rattle.rules.proofs.ChecksLaws.{then-pass}
 use Rattle.rules.proofs.KmipLaws.{load-key}
 use Rattle.kmip.specs.declared.MessageRead.{MessageRead}
@@ -191,7 +191,7 @@ module _ (n : ℕ) (xs : List ℕ) (h : n ≤ length xs) where
 
   -- by the kind
   kind-stays : (k : ℕ) → (k ≡ 13 → ⊥) → AllPass (getD (kinds d) k unknownKind .checks) → placed (getD (kinds d) k unknownKind .frame) xs ≡ xs
-  unfolding kinds readReplace
+  unfolding kinds readReplace readWrapped
   kind-stays zero m p = refl
   kind-stays (suc zero) m p = refl
   kind-stays (suc (suc zero)) m p = refl
@@ -206,7 +206,8 @@ module _ (n : ℕ) (xs : List ℕ) (h : n ≤ length xs) where
   kind-stays (suc (suc (suc (suc (suc (suc (suc (suc (suc (suc (suc zero))))))))))) m p = refl
   kind-stays (suc (suc (suc (suc (suc (suc (suc (suc (suc (suc (suc (suc zero)))))))))))) m p = refl
   kind-stays (suc (suc (suc (suc (suc (suc (suc (suc (suc (suc (suc (suc (suc zero))))))))))))) m p = absurd (m refl)
-  kind-stays (suc (suc (suc (suc (suc (suc (suc (suc (suc (suc (suc (suc (suc (suc k)))))))))))))) m p = refl
+  kind-stays (suc (suc (suc (suc (suc (suc (suc (suc (suc (suc (suc (suc (suc (suc zero)))))))))))))) m p = refl
+  kind-stays (suc (suc (suc (suc (suc (suc (suc (suc (suc (suc (suc (suc (suc (suc (suc k))))))))))))))) m p = refl
 
   -- the bytes of a frame of another kind than 0D stay
   pub others-stay : (r : FrameRead) → (byte 0 d ≡ 13 → ⊥) → r ≡ numbered (readFrame d)

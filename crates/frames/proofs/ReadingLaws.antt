@@ -8,19 +8,19 @@ use Prim.Native.Nat.{ℕ, zero, suc, _+_, _-_, _/_, _≤_, _<_}
 use native.Mathlib.Nat.{min-le-left}
 use native.Mathlib.Omega.{arith}
 use lib.ListN.{length, getD, take, drop, length-append, length-drop, length-take}
-use lib.Seq.{take-append-le, drop-append-le, take-length, drop-at}
+use lib.Seq.{take-length, drop-at}
 use borrow.Author.Tests.{eqb-true, not-false}
 use Rattle.cells.specs.Cells.{part, write}
-use Rattle.cells.proofs.CellsLaws.{length-part, part-write-in, part-whole, length-write}
+use Rattle.cells.proofs.CellsLaws.{length-part, part-front-of, part-write-in, part-whole, length-write}
 use Rattle.rules.specs.declared.Namespace.{Namespace}
 use Rattle.rules.specs.declared.Tag.{Tag}
 use Rattle.rules.specs.declared.Refusal.{Refusal}
-use Rattle.rules.specs.Numbers.{uidMost, keySize}
+use Rattle.rules.specs.Numbers.{uidMost, keySize, wrappedSize}
 use Rattle.rules.specs.Checks.{Verdict, passed, refused, firstRefusal, settle, judged, AllPass}
 use Rattle.rules.specs.Fields.{byte}
 use Rattle.rules.specs.FrameLine.{decoded}
 use Rattle.rules.specs.Slots.{Contents, FitKey}
-use Rattle.rules.specs.Frames.{Frame, load, readLoad, readReplace, readMessage, unknownKind, kinds, readFrame}
+use Rattle.rules.specs.Frames.{Frame, load, readLoad, readWrapped, readReplace, readMessage, unknownKind, kinds, readFrame}
 use Rattle.rules.specs.Order.{frameOf, readingChecks}
 use Rattle.rules.proofs.ChecksLaws.{then-pass, judged-map}
 use Rattle.rules.proofs.FrameLineLaws.{line-passes}
@@ -33,12 +33,6 @@ use Rattle.frames.proofs.LineLaws.{frame-of}
 
 -- ------------------------------------------------------------------------
 -- Bytes at the front stay the same, whatever is behind them
-
-part-append : (a n : ℕ) (d r : List ℕ) → a + n ≤ length d → part a n (d ++ r) ≡ part a n d
-unfolding part
-part-append a n d r h =
-    ap (take n) (drop-append-le a d r (omega arith))
-    ∙ take-append-le n (drop a d) r (simp length-drop (omega arith))
 
 part-behind : (u v : List ℕ) (n : ℕ) → length v ≡ n → part (length u) n (u ++ v) ≡ v
 unfolding part
@@ -67,7 +61,7 @@ load-kept f ns tag x fit room =
     let most = write-most 5 (l + keySize) both f in
     let there : 5 + (l + keySize) ≤ length f = omega arith in
     let uid : part 5 l (write 5 (l + keySize) both f) ≡ x .uid =
-    part-write-in 5 (l + keySize) both f there full 0 l (omega arith) ∙ part-append 0 l (x .uid) (x .key) (omega arith) ∙ part-whole l (x .uid) refl in
+    part-write-in 5 (l + keySize) both f there full 0 l (omega arith) ∙ part-front-of 0 l (x .uid) (x .key) (omega arith) ∙ part-whole l (x .uid) refl in
     let key : part (5 + l) keySize (write 5 (l + keySize) both f) ≡ x .key =
     part-write-in 5 (l + keySize) both f there full l keySize (omega arith) ∙ part-behind (x .uid) (x .key) keySize (fit .whole) in
     record { stands = rw (uid, key); lying = rw (uid, key) (fit, omega (arith, length-write 5 (l + keySize) both f there full)) }
@@ -81,19 +75,29 @@ module _ (d r : List ℕ) where
       let size : length d ≡ 6 + o + l + keySize = eqb-true _ _ (not-false _ (p .1 .1 .1 .1 .0)) in
       let counted : length (part 5 o d) ≡ o = length-part 5 o d (omega arith) in
       let again : length (part (6 + o) l d) ≡ l = length-part (6 + o) l d (omega arith) in
-      let old : part 5 o (d ++ r) ≡ part 5 o d = part-append 5 o d r (omega arith) in
-      let uid : part (6 + o) l (d ++ r) ≡ part (6 + o) l d = part-append (6 + o) l d r (omega arith) in
-      let key : part (6 + o + l) keySize (d ++ r) ≡ part (6 + o + l) keySize d = part-append (6 + o + l) keySize d r (omega arith) in
+      let old : part 5 o (d ++ r) ≡ part 5 o d = part-front-of 5 o d r (omega arith) in
+      let uid : part (6 + o) l (d ++ r) ≡ part (6 + o) l d = part-front-of (6 + o) l d r (omega arith) in
+      let key : part (6 + o + l) keySize (d ++ r) ≡ part (6 + o + l) keySize d = part-front-of (6 + o + l) keySize d r (omega arith) in
       record {
         stands = rw (counted, again, old, uid, key);
         lying = rw (counted, again, uid, key) (fit, omega (arith, length-append d r));
       }
 
+  wrapped-kept : AllPass (readWrapped d .checks) → Fit (readWrapped d .frame) → Kept (d ++ r) (readWrapped d .frame)
+  unfolding readWrapped
+  wrapped-kept p fit =
+      let l : ℕ = byte 4 d in
+      let size : length d ≡ 5 + l + wrappedSize = eqb-true _ _ (not-false _ (p .1 .1 .0)) in
+      let counted : length (part 5 l d) ≡ l = length-part 5 l d (omega arith) in
+      let uid : part 5 l (d ++ r) ≡ part 5 l d = part-front-of 5 l d r (omega arith) in
+      let key : part (5 + l) wrappedSize (d ++ r) ≡ part (5 + l) wrappedSize d = part-front-of (5 + l) wrappedSize d r (omega arith) in
+      record { stands = rw (counted, uid, key); lying = rw (counted, uid, key) (fit, omega (arith, length-append d r)) }
+
   -- by the kind
   kind-kept : (k : ℕ) → AllPass (getD (kinds d) k unknownKind .checks) → Fit (getD (kinds d) k unknownKind .frame)
       → 5 + uidMost + keySize < length (placed (getD (kinds d) k unknownKind .frame) (d ++ r))
       → Kept (placed (getD (kinds d) k unknownKind .frame) (d ++ r)) (getD (kinds d) k unknownKind .frame)
-  unfolding kinds readLoad readReplace readMessage
+  unfolding kinds readLoad readReplace readMessage readWrapped
   kind-kept zero p fit room = absurd (true≢false (p .0))
   kind-kept (suc zero) p fit room = record { stands = refl; lying = tt }
   kind-kept (suc (suc zero)) p fit room = record { stands = refl; lying = tt }
@@ -108,7 +112,8 @@ module _ (d r : List ℕ) where
   kind-kept (suc (suc (suc (suc (suc (suc (suc (suc (suc (suc (suc zero))))))))))) p fit room = record { stands = refl; lying = tt }
   kind-kept (suc (suc (suc (suc (suc (suc (suc (suc (suc (suc (suc (suc zero)))))))))))) p fit room = record { stands = refl; lying = tt }
   kind-kept (suc (suc (suc (suc (suc (suc (suc (suc (suc (suc (suc (suc (suc zero))))))))))))) p fit room = load-kept (d ++ r) _ _ _ fit room
-  kind-kept (suc (suc (suc (suc (suc (suc (suc (suc (suc (suc (suc (suc (suc (suc k)))))))))))))) p fit room = absurd (true≢false (p .0))
+  kind-kept (suc (suc (suc (suc (suc (suc (suc (suc (suc (suc (suc (suc (suc (suc zero)))))))))))))) p fit room = wrapped-kept p fit
+  kind-kept (suc (suc (suc (suc (suc (suc (suc (suc (suc (suc (suc (suc (suc (suc (suc k))))))))))))))) p fit room = absurd (true≢false (p .0))
 
   frame-kept : AllPass (readFrame d .checks) → 5 + uidMost + keySize < length (placed (readFrame d .frame) (d ++ r))
       → Kept (placed (readFrame d .frame) (d ++ r)) (readFrame d .frame)

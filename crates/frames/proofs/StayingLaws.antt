@@ -16,7 +16,8 @@ use Rattle.rules.specs.declared.Refusal.{Refusal}
 use Rattle.rules.specs.Numbers.{uidMost, keySize, digitsMost}
 use Rattle.rules.specs.Checks.{Verdict, passed, refused, firstRefusal, settle, AllPass}
 use Rattle.rules.specs.FrameLine.{firstBad, decoded}
-use Rattle.rules.specs.Frames.{Frame, manage, release, load, replace, clearOne, clearAll, io, setFeatures, getFeatures, bootWrite, reset, discovery}
+use Rattle.rules.specs.Frames.{Frame, manage, release, load, loadWrapped, replace, clearOne, clearAll, io}
+use Rattle.rules.specs.Frames.{setFeatures, getFeatures, bootWrite, reset, discovery}
 use Rattle.rules.specs.Frames.{unknown}
 use Rattle.rules.specs.Order.{frameOf, readingChecks}
 use Rattle.rules.proofs.ChecksLaws.{then-pass}
@@ -80,6 +81,7 @@ module _ (line bytes : List ℕ) (w : ℕ) (digits : length line ≤ digitsMost 
       drop-write 5 (length (x .uid) + keySize) (x .uid ++ x .key) came (omega arith) size w (omega arith)
   placed-stays (manage ns tags) fit = refl
   placed-stays (release ns) fit = refl
+  placed-stays (loadWrapped ns tag x) fit = refl
   placed-stays (replace ns tag old x) fit = refl
   placed-stays (clearOne ns tag) fit = refl
   placed-stays (clearAll ns) fit = refl

@@ -9,9 +9,9 @@ use Rattle.rules.specs.declared.Refusal.{Refusal}
 use Rattle.rules.specs.Checks.{judged}
 use Rattle.rules.specs.declared.Namespace.{Namespace}
 use Rattle.rules.specs.declared.Tag.{Tag}
-use Rattle.rules.specs.Numbers.{uidMost, keySize}
+use Rattle.rules.specs.Numbers.{uidMost, keySize, wrappedSize}
 use Rattle.rules.specs.Answers.{07·02, 07·17, 07·18}
-use Rattle.rules.specs.Slots.{FitKey}
+use Rattle.rules.specs.Slots.{FitKey, FitWrapped}
 use Rattle.rules.specs.Frames.{Frame, Reading, contentsAt}
 use Rattle.rules.specs.Frames as frames
 use Rattle.rules.specs.Order.{frameOf, readingChecks}
@@ -19,7 +19,7 @@ use Rattle.digits.specs.Digits.{readInto}
 use Rattle.kmip.specs.declared.MessageRead.{MessageRead}
 use Rattle.kmip.specs.declared.MessageRead.the-variants.{NoRoom, NoLoad, BadKeyUid, Brings}
 use Rattle.frames.specs.declared.FrameRead.{FrameRead}
-use Rattle.frames.specs.declared.FrameRead.the-variants.{Manage, Release, Load, Replace, ClearOne, ClearAll, Io, SetFeatures, GetFeatures}
+use Rattle.frames.specs.declared.FrameRead.the-variants.{Manage, Release, Load, LoadWrapped, Replace, ClearOne, ClearAll, Io, SetFeatures, GetFeatures}
 use Rattle.frames.specs.declared.FrameRead.the-variants.{BootWrite, Reset, Discovery, Refused}
 
 -- a frame's numbers; of a KeyUID its length
@@ -27,6 +27,7 @@ abbrev pub numbersOf : Frame → FrameRead
 numbersOf (frames.manage ns tags) = Manage ns tags
 numbersOf (frames.release ns) = Release ns
 numbersOf (frames.load ns tag x) = Load ns tag (length (x .uid))
+numbersOf (frames.loadWrapped ns tag x) = LoadWrapped ns tag (length (x .uid))
 numbersOf (frames.replace ns tag old x) = Replace ns tag (length old) (length (x .uid))
 numbersOf (frames.clearOne ns tag) = ClearOne ns tag
 numbersOf (frames.clearAll ns) = ClearAll ns
@@ -46,8 +47,9 @@ pub data Meant : Type 0 where
 abbrev pub meant : List ℕ → FrameRead → Meant
 meant f (Manage ns tags) = frame (frames.manage ns tags)
 meant f (Release ns) = frame (frames.release ns)
-meant f (Load ns tag l) = frame (frames.load ns tag (contentsAt 5 l f))
-meant f (Replace ns tag o l) = frame (frames.replace ns tag (part 5 o f) (contentsAt (6 + o) l f))
+meant f (Load ns tag l) = frame (frames.load ns tag (contentsAt keySize 5 l f))
+meant f (LoadWrapped ns tag l) = frame (frames.loadWrapped ns tag (contentsAt wrappedSize 5 l f))
+meant f (Replace ns tag o l) = frame (frames.replace ns tag (part 5 o f) (contentsAt keySize (6 + o) l f))
 meant f (ClearOne ns tag) = frame (frames.clearOne ns tag)
 meant f (ClearAll ns) = frame (frames.clearAll ns)
 meant f (Io c) = frame (frames.io c)
@@ -62,11 +64,12 @@ meant f (Refused r) = refusal r
 unfoldable pub numbered : Reading → FrameRead
 numbered reading = judged (reading .checks) Refused (numbersOf (reading .frame))
 
--- a load's KeyUID and key stand from byte 5 on, wherever the line had them; the other kinds leave the bytes
+-- a load's KeyUID and key stand from byte 5 on, wherever the line had them (a message has them elsewhere); the other kinds leave the bytes
 abbrev pub placed : Frame → List ℕ → List ℕ
 placed (frames.load ns tag x) f = write 5 (length (x .uid) + keySize) (x .uid ++ x .key) f
 placed (frames.manage ns tags) f = f
 placed (frames.release ns) f = f
+placed (frames.loadWrapped ns tag x) f = f
 placed (frames.replace ns tag old x) f = f
 placed (frames.clearOne ns tag) f = f
 placed (frames.clearAll ns) f = f
@@ -107,12 +110,13 @@ Short NoLoad = Unit {0}
 Short BadKeyUid = Unit {0}
 Short (Brings l) = l ≤ uidMost
 
--- a load's and a replace's KeyUID and key fit, and lie in the bytes
+-- the KeyUID and key of a load, clear or wrapped, and of a replace fit, and lie in the bytes
 abbrev pub Lies : List ℕ → FrameRead → Type 0
 Lies f (Manage ns tags) = Unit {0}
 Lies f (Release ns) = Unit {0}
-Lies f (Load ns tag l) = FitKey (contentsAt 5 l f) × (5 + l + keySize ≤ length f)
-Lies f (Replace ns tag o l) = FitKey (contentsAt (6 + o) l f) × (6 + o + l + keySize ≤ length f)
+Lies f (Load ns tag l) = FitKey (contentsAt keySize 5 l f) × (5 + l + keySize ≤ length f)
+Lies f (LoadWrapped ns tag l) = FitWrapped (contentsAt wrappedSize 5 l f) × (5 + l + wrappedSize ≤ length f)
+Lies f (Replace ns tag o l) = FitKey (contentsAt keySize (6 + o) l f) × (6 + o + l + keySize ≤ length f)
 Lies f (ClearOne ns tag) = Unit {0}
 Lies f (ClearAll ns) = Unit {0}
 Lies f (Io c) = Unit {0}

@@ -8,7 +8,7 @@ ghost use Rattle.rules.specs.State.{namespace, keyTag};
 ghost use Rattle.rules.specs.Frames.{manage as Manage, release as Release, clearOne as ClearOne, clearAll as ClearAll, io as Io, setFeatures as SetFeatures};
 ghost use Rattle.rules.specs.Frames.{getFeatures as GetFeatures, bootWrite as BootWrite, reset as Reset, discovery as Discovery};
 ghost use Rattle.rules.specs.Numbers.{uidMost, keySize};
-ghost use Rattle.rules.specs.Frames.{exactly, readLoad, readReplace, readMessage, readFrame, commandOf};
+ghost use Rattle.rules.specs.Frames.{exactly, readLoad, readWrapped, readReplace, readMessage, readFrame, commandOf};
 ghost use Rattle.frames.specs.Reading.{numbered, readAs, asLoad, Short};
 use crate::FrameRead;
 use crate::fields;
@@ -20,6 +20,7 @@ use rules::Namespace;
 use rules::Refusal;
 use rules::Tag;
 use rules::UID_MOST;
+use rules::WRAPPED_SIZE;
 
 // A namespace of one byte, as every kind but I/O has it.
 fn namespace_of(b: u8) -> Namespace
@@ -60,6 +61,22 @@ fn load(f: &[u8]) -> FrameRead
         return FrameRead::Refused(Refusal::WrongLength);
     }
     FrameRead::Load(namespace_of(f[1]), Tag(word(f, 2)), l)
+}
+
+fn load_wrapped(f: &[u8]) -> FrameRead
+    ensures { λ r. ⌜ r ≡ numbered (readWrapped (now (f .entry))) ⌝ }
+{
+    if f.len() < 5 {
+        return FrameRead::Refused(Refusal::WrongLength);
+    }
+    let l = f[4] as usize;
+    if l == 0 || l > UID_MOST {
+        return FrameRead::Refused(Refusal::BadKeyUidLength);
+    }
+    if f.len() != 5 + l + WRAPPED_SIZE {
+        return FrameRead::Refused(Refusal::WrongLength);
+    }
+    FrameRead::LoadWrapped(namespace_of(f[1]), Tag(word(f, 2)), l)
 }
 
 fn replace(f: &[u8]) -> FrameRead
@@ -205,7 +222,7 @@ fn message(bytes: &mut [u8], n: usize, brought: &mut [u8]) -> FrameRead
     through(bytes, n, brought)
 }
 
-// The first byte says which of the twelve kinds that stay as they lie a frame is.
+// The first byte says which of the thirteen kinds that stay as they lie a frame is.
 fn by_kind(f: &[u8]) -> FrameRead
     requires { ⌜ (0 < length (now f)) × (byte 0 (now f) ≡ 13 → ⊥) ⌝ }
     ensures { λ r. ⌜ r ≡ numbered (readFrame (now (f .entry))) ⌝ }
@@ -224,8 +241,10 @@ fn by_kind(f: &[u8]) -> FrameRead
         0x0A => boot_write(f),
         0x0B => reset(f),
         0x0C => discovery(f),
+        0x0D => FrameRead::Refused(Refusal::UnknownKind),
+        0x0E => load_wrapped(f),
         0x00 => FrameRead::Refused(Refusal::UnknownKind),
-        0x0D..=0xFF => FrameRead::Refused(Refusal::UnknownKind),
+        0x0F..=0xFF => FrameRead::Refused(Refusal::UnknownKind),
     }
 }
 

@@ -21,12 +21,14 @@ use rules::UID_MOST;
 // A KeyUID and a key, as a message may bring them.
 pub const BROUGHT_MOST: usize = UID_MOST + KEY_SIZE;
 
-// A frame as it was read. A load's KeyUID lies from byte 5 on and has so many bytes; its key lies behind it. A replace's old KeyUID lies
+// A frame as it was read. A load's KeyUID lies from byte 5 on and has so many bytes; its key, clear or
+// wrapped, lies behind it. A replace's old KeyUID lies
 // from byte 5 on, the new one behind it and a length byte, the key behind that. specs/Reading.antt says what each stands for.
 pub enum FrameRead {
     Manage(Namespace, u8),
     Release(Namespace),
     Load(Namespace, Tag, usize),
+    LoadWrapped(Namespace, Tag, usize),
     Replace(Namespace, Tag, usize, usize),
     ClearOne(Namespace, Tag),
     ClearAll(Namespace),

@@ -61,6 +61,8 @@ use Rattle.tuffaleen_c.proofs.tuffaleen_line.Met as tuffaleen-c-line
 use Rattle.tuffaleen_c.proofs.tuffaleen_session.Met as tuffaleen-c-session
 use Rattle.tuffaleen_c.proofs.tuffaleen_discovery.Met as tuffaleen-c-discovery
 use Rattle.tuffaleen_c.proofs.tuffaleen_message.Met as tuffaleen-c-message
+use Rattle.tuffaleen_c.proofs.tuffaleen_wrap.Met as tuffaleen-c-wrap
+use Rattle.tuffaleen_c.proofs.tuffaleen_unwrap.Met as tuffaleen-c-unwrap
 use Rattle.promises.specs.Defined.{Defined}
 
 pub defined : {M : Type 1} → Defined M
@@ -126,4 +128,6 @@ defined = record {
   tuffaleen-c-session-ends = tuffaleen-c-session.met;
   tuffaleen-c-discovery-ends = tuffaleen-c-discovery.met;
   tuffaleen-c-message-ends = tuffaleen-c-message.met;
+  tuffaleen-c-wrap-ends = tuffaleen-c-wrap.met;
+  tuffaleen-c-unwrap-ends = tuffaleen-c-unwrap.met;
 }

@@ -30,11 +30,11 @@ use Rattle.promises.proofs.LeavesLaws.{start-is, call-is, session-is}
 -- ------------------------------------------------------------------------
 -- A start that is not refused is a fresh drive
 
-fresh-start : (keys store : List ℕ) (o : Outcome) → StartLeaves keys store o → o .answer ≡ Done → o .state ≡ fresh
-fresh-start keys store o l e =
+fresh-start : (kek keys store : List ℕ) (o : Outcome) → StartLeaves kek keys store o → o .answer ≡ Done → o .state ≡ fresh kek
+fresh-start kek keys store o l e =
     ⊎-elim
-    (λ f. absurd (accepted-not Done (f .0) refl (sym e ∙ rules.start-refused-when keys store o (start-is keys store o l) (f .0) .1 (f .1 .0))))
-    (λ p. ap (λ (x : Outcome). x .state) (rules.starts-fresh keys store o (start-is keys store o l) (p .0)))
+    (λ f. absurd (accepted-not Done (f .0) refl (sym e ∙ rules.start-refused-when kek keys store o (start-is kek keys store o l) (f .0) .1 (f .1 .0))))
+    (λ p. ap (λ (x : Outcome). x .state) (rules.starts-fresh kek keys store o (start-is kek keys store o l) (p .0) .0))
     (by-verdict (startChecks keys store) Refused Done)
 
 -- ------------------------------------------------------------------------
@@ -73,7 +73,7 @@ module _ (s : State) (text out : List ℕ) (o : Session) (l : SessionLeaves s te
 
 from-fresh : (h : List Event) (s : State) → SinceStart h s → FromFresh h s
 unfolding unanswered answered
-from-fresh h s (started keys store o l e) = rw (fresh-start keys store o l e) begin
+from-fresh h s (started kek keys store size o l e) = rw (fresh-start kek keys store o l e) (begin kek size)
 from-fresh h s (since.answered h′ s′ led line out o l p) =
     rw (call-is s′ line out o l ∙ call-read s′ line out p) (one-more h′ s′ (from-fresh h′ s′ led) line)
 from-fresh h s (unread h′ s′ led line out o l r f) = rw (call-is s′ line out o l ∙ call-unread s′ line out r f) (from-fresh h′ s′ led)
@@ -96,15 +96,17 @@ steps h s line answer (in-session h′ s′ led text out o l before after line�
 
 pub demands : Demands
 demands = record {
-  start-refused-when = λ keys store o l. rules.start-refused-when keys store o (start-is keys store o l);
-  start-refused-keeps = λ keys store o l. rules.start-refused-keeps keys store o (start-is keys store o l);
-  starts-fresh = λ keys store o l. rules.starts-fresh keys store o (start-is keys store o l);
+  start-refused-when = λ kek keys store o l. rules.start-refused-when kek keys store o (start-is kek keys store o l);
+  start-refused-keeps = λ kek keys store o l. rules.start-refused-keeps kek keys store o (start-is kek keys store o l);
+  starts-fresh = λ kek keys store o l. rules.starts-fresh kek keys store o (start-is kek keys store o l);
   refused-when = λ s line out o l. rules.refused-when s line out o (call-is s line out o l);
   done-when = λ s line out o l. rules.done-when s line out o (call-is s line out o l);
   refused-keeps = λ s line out o l. rules.refused-keeps s line out o (call-is s line out o l);
+  kek-stays = λ s line out o l. rules.kek-stays s line out o (call-is s line out o l);
   writes = λ s line out o l. rules.writes s line out o (call-is s line out o l);
   session-refused-when = λ s text out o l. rules.session-refused-when s text out o (session-is s text out o l);
   session-refused-keeps = λ s text out o l. rules.session-refused-keeps s text out o (session-is s text out o l);
+  session-kek-stays = λ s text out o l. rules.session-kek-stays s text out o (session-is s text out o l);
   session-answers = λ s text out o l. rules.session-answers s text out o (session-is s text out o l);
   slot-as-told = λ h s led. rules.slot-as-told h s (from-fresh h s led);
   same-key-uid-or-never = λ h s line answer a. rules.same-key-uid-or-never h s line answer (steps h s line answer a);

@@ -20,8 +20,12 @@ all-same f p q r = cc
 both-same : {A B D : Type 0} (f : A → B → D) {a a′ : A} {b b′ : B} → a ≡ a′ → b ≡ b′ → f a b ≡ f a′ b′
 both-same f p q = cc
 
-pub start-is : (keys store : List ℕ) (o : Outcome) → StartLeaves keys store o → o ≡ start keys store
-start-is keys store o l = l .leaves ∙ l .run .meets ∙ both-same start (l .on-cache) (l .on-store)
+pub start-is : (kek keys store : List ℕ) (o : Outcome) → StartLeaves kek keys store o → o ≡ start kek keys store
+start-is kek keys store o l =
+    let e = l .on-kek in
+    let f = l .on-cache in
+    let g = l .on-store in
+    l .leaves ∙ l .run .meets ∙ (λ i. start (e i) (f i) (g i))
 
 pub call-is : (s : State) (line out : List ℕ) (o : Called) → CallLeaves s line out o → o ≡ call s line out
 call-is s line out o l = l .leaves ∙ l .run .meets ∙ all-same call (l .on-state) (l .on-line) (l .on-out)

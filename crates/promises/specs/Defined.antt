@@ -62,6 +62,8 @@ use Rattle.tuffaleen_c.proofs.tuffaleen_line.Statement as tuffaleen-c-line
 use Rattle.tuffaleen_c.proofs.tuffaleen_session.Statement as tuffaleen-c-session
 use Rattle.tuffaleen_c.proofs.tuffaleen_discovery.Statement as tuffaleen-c-discovery
 use Rattle.tuffaleen_c.proofs.tuffaleen_message.Statement as tuffaleen-c-message
+use Rattle.tuffaleen_c.proofs.tuffaleen_wrap.Statement as tuffaleen-c-wrap
+use Rattle.tuffaleen_c.proofs.tuffaleen_unwrap.Statement as tuffaleen-c-unwrap
 
 -- Every public function, run on any arguments, ends and leaves what its contract says: its theorem, as the prover states it.
 pub record Defined (M : Type 1) : Type 2 where
@@ -126,3 +128,5 @@ pub record Defined (M : Type 1) : Type 2 where
   pub tuffaleen-c-session-ends : tuffaleen-c-session.statement M
   pub tuffaleen-c-discovery-ends : tuffaleen-c-discovery.statement M
   pub tuffaleen-c-message-ends : tuffaleen-c-message.statement M
+  pub tuffaleen-c-wrap-ends : tuffaleen-c-wrap.statement M
+  pub tuffaleen-c-unwrap-ends : tuffaleen-c-unwrap.statement M

@@ -10,6 +10,7 @@ use lib.ListN.{length, take}
 use Rattle.rules.specs.declared.Refusal.{Refusal}
 use Rattle.rules.specs.declared.Answer.{Answer}
 use Rattle.rules.specs.declared.Answer.the-variants.{Done, Refused}
+use Rattle.rules.specs.Numbers.{kekSize}
 use Rattle.rules.specs.Checks.{AllPass, FirstToFail}
 use Rattle.rules.specs.Answers.{AllSayable}
 use Rattle.rules.specs.State.{State, Outcome}
@@ -17,7 +18,8 @@ use Rattle.rules.specs.Call.{Called, callChecks, roomFor}
 use Rattle.rules.specs.Sessions.{Session, linesOf, endState, answerLines}
 use Rattle.rules.specs.History.{Event, told}
 use Rattle.rules.specs.Promises.{StartRefusedWhen, StartRefusedKeeps, StartsFresh}
-use Rattle.rules.specs.Promises.{RefusedWhen, DoneWhen, RefusedKeeps, Writes, SessionRefusedWhen, SessionRefusedKeeps, SessionAnswers}
+use Rattle.rules.specs.Promises.{RefusedWhen, DoneWhen, RefusedKeeps, KekStays, Writes}
+use Rattle.rules.specs.Promises.{SessionRefusedWhen, SessionRefusedKeeps, SessionKekStays, SessionAnswers}
 use Rattle.rules.specs.Promises.{SlotAsTold, OneKeyForAKeyUid, CountAsTold, NeverUnsound, SameKeyUidOrNever, LoadFindsNothing, PoolTooSmallWhen}
 use Rattle.promises.specs.Leaves.{StartLeaves, CallLeaves, SessionLeaves}
 
@@ -30,7 +32,8 @@ pub record Shows (o : Session) (answers : List Answer) : Type 0 where
 -- Whatever is called, in any order, after a drive was started: what was answered since, the newest first, and the state that it led to. A
 -- call's answer is the one that it returned; a session's are those that its output shows.
 pub data SinceStart : List Event → State → Type 0 where
-  started : (keys store : List ℕ) (o : Outcome) → StartLeaves keys store o → o .answer ≡ Done → SinceStart [] (o .state)
+  started : (kek keys store : List ℕ) → length kek ≡ kekSize
+      → (o : Outcome) → StartLeaves kek keys store o → o .answer ≡ Done → SinceStart [] (o .state)
   answered : (h : List Event) (s : State) → SinceStart h s
       → (line out : List ℕ) (o : Called) → CallLeaves s line out o → AllPass (callChecks s (roomFor line) out)
       → SinceStart (record { line = line; answer = o .answer } ∷ h) (o .state)
@@ -68,9 +71,11 @@ pub record Demands : Type 0 where
   pub refused-when : RefusedWhen CallLeaves
   pub done-when : DoneWhen CallLeaves
   pub refused-keeps : RefusedKeeps CallLeaves
+  pub kek-stays : KekStays CallLeaves
   pub writes : Writes CallLeaves
   pub session-refused-when : SessionRefusedWhen SessionLeaves
   pub session-refused-keeps : SessionRefusedKeeps SessionLeaves
+  pub session-kek-stays : SessionKekStays SessionLeaves
   pub session-answers : SessionAnswers SessionLeaves
   -- demand 3, and what else holds since a start
   pub slot-as-told : SlotAsTold SinceStart

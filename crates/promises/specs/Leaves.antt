@@ -29,12 +29,13 @@ pub record Run {Lifetimes : Type 0} {Args Result Exit : Lifetimes → Type 0}
   pub exit : Exit κs
   pub meets : Contract κs args result exit
 
--- start(keys, marks)
-pub record StartLeaves (keys store : List ℕ) (o : Outcome) : Type 0 where
+-- start(kek, keys, marks)
+pub record StartLeaves (kek keys store : List ℕ) (o : Outcome) : Type 0 where
   pub run : Run drive-start.Learnt
-  pub on-cache : now (run .args .0) ≡ keys
-  pub on-store : now (run .args .1 .0) ≡ store
-  pub leaves : o ≡ outcome (run .result) (now (run .exit .0)) (now (run .exit .1 .0))
+  pub on-kek : now (run .args .0) ≡ kek
+  pub on-cache : now (run .args .1 .0) ≡ keys
+  pub on-store : now (run .args .1 .1 .0) ≡ store
+  pub leaves : o ≡ outcome (run .result) (now (run .exit .1 .0)) (now (run .exit .1 .1 .0))
 
 -- answer_line(registers, keys, marks, line, out), on a state
 pub record CallLeaves (s : State) (line out : List ℕ) (o : Called) : Type 0 where

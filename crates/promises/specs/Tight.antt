@@ -90,6 +90,8 @@ use Rattle.tuffaleen_c.proofs.tuffaleen_line.Reads as tuffaleen-c-line
 use Rattle.tuffaleen_c.proofs.tuffaleen_session.Reads as tuffaleen-c-session
 use Rattle.tuffaleen_c.proofs.tuffaleen_discovery.Reads as tuffaleen-c-discovery
 use Rattle.tuffaleen_c.proofs.tuffaleen_message.Reads as tuffaleen-c-message
+use Rattle.tuffaleen_c.proofs.tuffaleen_wrap.Reads as tuffaleen-c-wrap
+use Rattle.tuffaleen_c.proofs.tuffaleen_unwrap.Reads as tuffaleen-c-unwrap
 
 -- A function's contract as its callers know it: `asks` is what they must show of the arguments; `tells` what they learn of the arguments,
 -- the result, and what was lent as it is at the exit (exit .0 for the first parameter, exit .1 .0 for the second, and so on). `left` puts
@@ -284,7 +286,7 @@ Tight-locks-set-features = Tight {Left = Changed} locks-set-features.Asked locks
 abbrev pub Tight-drive-start : Type 0
 Tight-drive-start =
     Tight {Left = Answered × (List ℕ × List ℕ)} drive-start.Asked drive-start.Learnt
-    (λ κs result exit. (result, (now (exit .0), now (exit .1 .0))))
+    (λ κs result exit. (result, (now (exit .1 .0), now (exit .1 .1 .0))))
 
 abbrev pub Tight-drive-answer-line : Type 0
 Tight-drive-answer-line =
@@ -320,3 +322,9 @@ abbrev pub Tight-tuffaleen-c-message : Type 0
 Tight-tuffaleen-c-message =
     Tight {Left = ℕ × (ℕ × List ℕ)} tuffaleen-c-message.Asked tuffaleen-c-message.Learnt
     (λ κs result exit. (result, (now (exit .1 .1 .1 .1 .1 .0), now (exit .1 .1 .1 .1 .0))))
+
+abbrev pub Tight-tuffaleen-c-wrap : Type 0
+Tight-tuffaleen-c-wrap = Tight {Left = List ℕ} tuffaleen-c-wrap.Asked tuffaleen-c-wrap.Learnt (λ κs result exit. now (exit .1 .0))
+
+abbrev pub Tight-tuffaleen-c-unwrap : Type 0
+Tight-tuffaleen-c-unwrap = Tight {Left = ℕ × List ℕ} tuffaleen-c-unwrap.Asked tuffaleen-c-unwrap.Learnt (λ κs result exit. (result, now (exit .1 .0)))

@@ -4,37 +4,51 @@
 -- Assumes nothing.
 use mathlib.Core.Path.{_≡_, refl, sym, ap, _∙_}
 use mathlib.Core.Bool.{Bool, true, false, _&&_, cond, true≢false}
+use mathlib.Core.Option.{Option, none, some}
 use mathlib.Core.List.{List, _++_}
 use Prim.Native.Nat.{ℕ, _+_, _-_, _≤_, _<_}
 use native.Mathlib.Omega.{arith}
 use lib.Dec.{eqb}
+use lib.ListN.{length}
 use borrow.Author.Tests.{ltb-false, le-leb}
 use Rattle.cells.proofs.CellsLaws.{length-cell}
 use Rattle.cells.proofs.PredicatesLaws.{and-left, and-right, or-right}
 use Rattle.rules.specs.declared.Namespace.{Namespace}
 use Rattle.rules.specs.declared.Tag.{Tag}
-use Rattle.rules.specs.Numbers.{blocksEach, tagsMost, poolSlots, slotWidth}
+use Rattle.rules.specs.Numbers.{blocksEach, tagsMost, poolSlots, slotWidth, cacheSize, keySize, wrappedSize}
 use Rattle.rules.specs.Checks.{Check, AllPass, onlyIf}
 use Rattle.rules.specs.Answers.{accepted}
-use Rattle.rules.specs.State.{State, Sized, sameNamespace, sameTag, count, managed, tagAbove, total, IsNamespace}
-use Rattle.rules.specs.Slots.{placeOf, slot, emptied, Held, nothing, holding, held, otherKey, FitKey, IsSlot}
+use Rattle.rules.specs.State.{State, Sized, keyEncryptionKey, sameNamespace, sameTag, count, managed, tagAbove, total, IsNamespace}
+use Rattle.rules.specs.Slots.{Contents, placeOf, slot, emptied, Held, nothing, holding, held, otherKey, FitKey, FitWrapped, IsSlot}
 use Rattle.rules.specs.Marks.{mark, neverWritten, identityOf}
 use Rattle.rules.specs.Sound.{someAbove, slotUnsound, unsound}
 use Rattle.rules.specs.declared.Command.{Command}
-use Rattle.rules.specs.Frames.{Frame, manage, release, load, replace, clearOne, clearAll, io}
+use Rattle.rules.specs.Frames.{Frame, manage, release, load, loadWrapped, replace, clearOne, clearAll, io, bringsNothing, brought}
 use Rattle.rules.specs.Frames.{setFeatures, getFeatures, bootWrite, reset, discovery, unknown}
+use Rattle.rules.specs.KeyWrap.{unwrap}
 use Rattle.rules.specs.Effects.{setCount, storeKey, emptySlot, emptySlots, emptyAllSlots, zeroMarks, markCovered, onlyWhen}
 use Rattle.rules.specs.Order as order
-use Rattle.rules.specs.Order.{frameRule, isWrite, isReading, commandChecks, keyChecks, markCheck, isPowerCycle, released, powerCycled}
+use Rattle.rules.specs.Order.{frameRule, withUid, opened, isWrite, isReading, commandChecks, keyChecks, markCheck, isPowerCycle, released, powerCycled}
 use Rattle.rules.specs.History.{touches, leaves, covers, countAfter}
 use Rattle.rules.proofs.ChecksLaws.{pass-append}
 use Rattle.rules.proofs.StateLaws.{same-namespace, same-tag, is-namespace, unmanaged, total-set}
 use Rattle.rules.proofs.FramesLaws.{Fit}
+use Rattle.rules.proofs.AesLaws.{unwrap-length}
 use Rattle.rules.proofs.SlotsLaws.{bytesOf}
-use Rattle.rules.proofs.SoundLaws.{above-set, unallocated-zero, sound-counts, sound-total, sound-slot}
+use Rattle.rules.proofs.SoundLaws.{above-set, unallocated-zero, sound-cache, sound-counts, sound-total, sound-slot}
 use Rattle.rules.proofs.EffectsLaws.{named-slot, slot-fits, store-same, store-other, empty-same, empty-other, emptied-same, emptied-other}
 use Rattle.rules.proofs.EffectsLaws.{all-emptied, zeroed-same, zeroed-other, covered-same, covered-other, count-same, count-other, sized-count}
-use Rattle.rules.proofs.EffectsLaws.{sized-store, sized-empty, sized-emptied, sized-all, sized-zeroed, sized-covered}
+use Rattle.rules.proofs.EffectsLaws.{sized-store, sized-empty, sized-emptied, sized-all, sized-zeroed, sized-covered, store-kek, empty-kek, emptied-kek, all-kek}
+
+-- a wrapped key that opens is a key
+pub opened-fit : (s : State) (x : Contents) → FitWrapped x → bringsNothing (opened (keyEncryptionKey s) x) ≡ false
+    → FitKey (brought (opened (keyEncryptionKey s) x))
+opened-fit s x fit e = by (unwrap (keyEncryptionKey s) (x .key)) (unwrap-length (keyEncryptionKey s) (x .key)) e
+  where
+    by : (o : Option (List ℕ)) → ((key : List ℕ) → length (x .key) ≡ wrappedSize → o ≡ some key → length key ≡ keySize)
+        → bringsNothing (withUid (x .uid) o) ≡ false → FitKey (brought (withUid (x .uid) o))
+    by none l e = absurd (true≢false e)
+    by (some key) l e = record { some = fit .some; short = fit .short; whole = l key (fit .whole) refl }
 
 abbrev effect : State → Frame → State
 effect s f = frameRule s f .effect
@@ -44,11 +58,12 @@ Passes s f = AllPass (frameRule s f .checks)
 
 -- the answer to a frame that passes is no refusal
 pub accepts : (s : State) (f : Frame) → accepted (frameRule s f .answer) ≡ true
-unfolding frameRule order.manage order.release order.load order.replace order.clearOne order.clearAll order.command order.setFeatures
+unfolding frameRule order.manage order.release order.load order.loadWrapped order.replace order.clearOne order.clearAll order.command order.setFeatures
     order.getFeatures order.bootWrite order.reset order.discovery
 accepts s (manage ns tags) = refl
 accepts s (release ns) = refl
 accepts s (load ns tag x) = refl
+accepts s (loadWrapped ns tag x) = refl
 accepts s (replace ns tag old x) = refl
 accepts s (clearOne ns tag) = refl
 accepts s (clearAll ns) = refl
@@ -115,11 +130,13 @@ module _ (s : State) (sized : Sized s) (sound : unsound s ≡ false) where
     never e = absurd (true≢false (sym e))
 
     pub untouched : (f : Frame) → Fit f → Passes s f → touches ns tag f ≡ false → slot (effect s f) ns tag ≡ slot s ns tag
-    unfolding frameRule order.manage order.release order.load order.replace order.clearOne order.clearAll order.command order.setFeatures
+    unfolding frameRule order.manage order.release order.load order.loadWrapped order.replace order.clearOne order.clearAll order.command order.setFeatures
         order.getFeatures order.bootWrite order.reset order.discovery setCount zeroMarks markCovered
     untouched (manage n tags) fit p e = refl
     untouched (release n) fit p e = emptied-other s sized n (is-namespace n (p .0)) ns tag is e
     untouched (load n t x) fit p e = store-other s sized n t (named-slot s sound n t (is-namespace n (p .0)) (p .1 .1 .0)) ns tag is x fit e
+    untouched (loadWrapped n t x) fit p e =
+        store-other s sized n t (named-slot s sound n t (is-namespace n (p .0)) (p .1 .1 .0)) ns tag is _ (opened-fit s x fit (p .1 .1 .1 .0)) e
     untouched (replace n t old x) fit p e = store-other s sized n t (named-slot s sound n t (is-namespace n (p .0)) (p .1 .1 .0)) ns tag is x fit e
     untouched (clearOne n t) fit p e = empty-other s sized n t (named-slot s sound n t (is-namespace n (p .0)) (p .1 .1 .0)) ns tag is e
     untouched (clearAll n) fit p e = emptied-other s sized n (is-namespace n (p .0)) ns tag is e
@@ -135,12 +152,14 @@ module _ (s : State) (sized : Sized s) (sound : unsound s ≡ false) where
     untouched discovery fit p e = refl
     untouched unknown fit p e = refl
 
-    pub touched : (f : Frame) → Fit f → Passes s f → touches ns tag f ≡ true → slot (effect s f) ns tag ≡ bytesOf (leaves f)
-    unfolding frameRule order.manage order.release order.load order.replace order.clearOne order.clearAll order.command order.setFeatures
+    pub touched : (f : Frame) → Fit f → Passes s f → touches ns tag f ≡ true → slot (effect s f) ns tag ≡ bytesOf (leaves (keyEncryptionKey s) f)
+    unfolding frameRule order.manage order.release order.load order.loadWrapped order.replace order.clearOne order.clearAll order.command order.setFeatures
         order.getFeatures order.bootWrite order.reset order.discovery setCount zeroMarks
     touched (manage n tags) fit p e = no-keys (ap (count s) (same-namespace ns n e) ∙ unmanaged s n (p .1 .0))
     touched (release n) fit p e = emptied-same s sized n (is-namespace n (p .0)) ns tag is e
     touched (load n t x) fit p e = store-same s sized n t (named-slot s sound n t (is-namespace n (p .0)) (p .1 .1 .0)) ns tag is x fit e
+    touched (loadWrapped n t x) fit p e =
+        store-same s sized n t (named-slot s sound n t (is-namespace n (p .0)) (p .1 .1 .0)) ns tag is _ (opened-fit s x fit (p .1 .1 .1 .0)) e
     touched (replace n t old x) fit p e = store-same s sized n t (named-slot s sound n t (is-namespace n (p .0)) (p .1 .1 .0)) ns tag is x fit e
     touched (clearOne n t) fit p e = empty-same s sized n t (named-slot s sound n t (is-namespace n (p .0)) (p .1 .1 .0)) ns tag is e
     touched (clearAll n) fit p e = emptied-same s sized n (is-namespace n (p .0)) ns tag is e
@@ -163,11 +182,12 @@ module _ (s : State) (sized : Sized s) (sound : unsound s ≡ false) where
         ∙ ap (tagAbove s n) (same-tag tag t (and-right (sameNamespace ns n) _ e))
         ∙ a
 
-    pub storable : (f : Frame) → Fit f → Passes s f → touches ns tag f ≡ true → Storable (effect s f) (leaves f)
-    unfolding frameRule order.load order.replace storeKey
+    pub storable : (f : Frame) → Fit f → Passes s f → touches ns tag f ≡ true → Storable (effect s f) (leaves (keyEncryptionKey s) f)
+    unfolding frameRule order.load order.loadWrapped order.replace storeKey
     storable (manage n tags) fit p e = tt
     storable (release n) fit p e = tt
     storable (load n t x) fit p e = (fit, (same-slot n t e (p .1 .1 .0), p .1 .1 .1 .1 .0))
+    storable (loadWrapped n t x) fit p e = (opened-fit s x fit (p .1 .1 .1 .0), (same-slot n t e (p .1 .1 .0), p .1 .1 .1 .1 .1 .0))
     storable (replace n t old x) fit p e = (fit, (same-slot n t e (p .1 .1 .0), p .1 .1 .1 .1 .1 .0))
     storable (clearOne n t) fit p e = tt
     storable (clearAll n) fit p e = tt
@@ -184,6 +204,7 @@ module _ (s : State) (sized : Sized s) (sound : unsound s ≡ false) where
     untouched-count (manage n tags) before e = rw e
     untouched-count (release n) before e = rw e
     untouched-count (load n t x) before e = refl
+    untouched-count (loadWrapped n t x) before e = refl
     untouched-count (replace n t old x) before e = refl
     untouched-count (clearOne n t) before e = refl
     untouched-count (clearAll n) before e = refl
@@ -209,11 +230,12 @@ module _ (s : State) (sized : Sized s) (sound : unsound s ≡ false) where
     when-count false t e = refl
 
     pub count-effect : (f : Frame) → Passes s f → count (effect s f) ns ≡ countAfter ns f (count s ns)
-    unfolding frameRule order.manage order.release order.load order.replace order.clearOne order.clearAll order.command order.setFeatures
+    unfolding frameRule order.manage order.release order.load order.loadWrapped order.replace order.clearOne order.clearAll order.command order.setFeatures
         order.getFeatures order.bootWrite order.reset order.discovery storeKey emptySlot emptySlots emptyAllSlots zeroMarks markCovered
     count-effect (manage n tags) p = set-count n tags (is-namespace n (p .0)) (sameNamespace ns n) refl
     count-effect (release n) p = released-count s n ns ∙ set-count n 0 (is-namespace n (p .0)) (sameNamespace ns n) refl
     count-effect (load n t x) p = refl
+    count-effect (loadWrapped n t x) p = refl
     count-effect (replace n t old x) p = refl
     count-effect (clearOne n t) p = refl
     count-effect (clearAll n) p = refl
@@ -237,7 +259,7 @@ module _ (s : State) (sized : Sized s) (sound : unsound s ≡ false) where
       counted = (sound-counts s sound, sound-total s sound)
 
   pub counted-effect : (f : Frame) → Passes s f → Counted (effect s f .registers .counts)
-  unfolding frameRule order.manage order.release order.load order.replace order.clearOne order.clearAll order.command order.setFeatures
+  unfolding frameRule order.manage order.release order.load order.loadWrapped order.replace order.clearOne order.clearAll order.command order.setFeatures
       order.getFeatures order.bootWrite order.reset order.discovery setCount storeKey emptySlot emptySlots emptyAllSlots zeroMarks markCovered
   counted-effect (manage n tags) p =
       let is = is-namespace n (p .0) in
@@ -253,6 +275,7 @@ module _ (s : State) (sized : Sized s) (sound : unsound s ≡ false) where
       let sum = total-set (s .registers .counts) (n .0 - 1) 0 (omega arith) in
       (above-set tagsMost (s .registers .counts) (n .0 - 1) 0 (sound-counts s sound) (omega arith), omega arith)
   counted-effect (load n t x) p = (sound-counts s sound, sound-total s sound)
+  counted-effect (loadWrapped n t x) p = (sound-counts s sound, sound-total s sound)
   counted-effect (replace n t old x) p = (sound-counts s sound, sound-total s sound)
   counted-effect (clearOne n t) p = (sound-counts s sound, sound-total s sound)
   counted-effect (clearAll n) p = (sound-counts s sound, sound-total s sound)
@@ -272,6 +295,7 @@ module _ (s : State) (sized : Sized s) (sound : unsound s ≡ false) where
     markAfter (manage n tags) = mark s ns block
     markAfter (release n) = cond (sameNamespace ns n) neverWritten (mark s ns block)
     markAfter (load n t x) = mark s ns block
+    markAfter (loadWrapped n t x) = mark s ns block
     markAfter (replace n t old x) = mark s ns block
     markAfter (clearOne n t) = mark s ns block
     markAfter (clearAll n) = mark s ns block
@@ -303,11 +327,12 @@ module _ (s : State) (sized : Sized s) (sound : unsound s ≡ false) where
     when-mark false t e = refl
 
     pub mark-effect : (f : Frame) → Passes s f → mark (effect s f) ns block ≡ markAfter f
-    unfolding frameRule order.manage order.release order.load order.replace order.clearOne order.clearAll order.command order.setFeatures
+    unfolding frameRule order.manage order.release order.load order.loadWrapped order.replace order.clearOne order.clearAll order.command order.setFeatures
         order.getFeatures order.bootWrite order.reset order.discovery setCount storeKey emptySlot emptySlots emptyAllSlots
     mark-effect (manage n tags) p = refl
     mark-effect (release n) p = released-mark s n ns block ∙ zeroed n (is-namespace n (p .0)) (sameNamespace ns n) refl
     mark-effect (load n t x) p = refl
+    mark-effect (loadWrapped n t x) p = refl
     mark-effect (replace n t old x) p = refl
     mark-effect (clearOne n t) p = refl
     mark-effect (clearAll n) p = refl
@@ -327,13 +352,15 @@ module _ (s : State) (sized : Sized s) (sound : unsound s ≡ false) where
   when-sized false t h = sized
 
   pub sized-effect : (f : Frame) → Fit f → Passes s f → Sized (effect s f)
-  unfolding frameRule order.manage order.release order.load order.replace order.clearOne order.clearAll order.command order.setFeatures
+  unfolding frameRule order.manage order.release order.load order.loadWrapped order.replace order.clearOne order.clearAll order.command order.setFeatures
       order.getFeatures order.bootWrite order.reset order.discovery
   sized-effect (manage ns tags) fit p = sized-count s sized ns tags
   sized-effect (release ns) fit p =
       let is = is-namespace ns (p .0) in
       sized-count _ (sized-zeroed _ (sized-emptied s sized ns is) ns is) ns 0
   sized-effect (load ns tag x) fit p = sized-store s sized ns tag (named-slot s sound ns tag (is-namespace ns (p .0)) (p .1 .1 .0)) x fit
+  sized-effect (loadWrapped ns tag x) fit p =
+      sized-store s sized ns tag (named-slot s sound ns tag (is-namespace ns (p .0)) (p .1 .1 .0)) _ (opened-fit s x fit (p .1 .1 .1 .0))
   sized-effect (replace ns tag old x) fit p = sized-store s sized ns tag (named-slot s sound ns tag (is-namespace ns (p .0)) (p .1 .1 .0)) x fit
   sized-effect (clearOne ns tag) fit p = sized-empty s sized ns tag (named-slot s sound ns tag (is-namespace ns (p .0)) (p .1 .1 .0))
   sized-effect (clearAll ns) fit p = sized-emptied s sized ns (is-namespace ns (p .0))
@@ -346,3 +373,33 @@ module _ (s : State) (sized : Sized s) (sound : unsound s ≡ false) where
       when-sized (isPowerCycle level) (powerCycled s) (record { counts = all .counts; cache = all .cache; store = all .store })
   sized-effect discovery fit p = sized
   sized-effect unknown fit p = sized
+
+-- ------------------------------------------------------------------------
+-- The key-encryption key
+
+module _ (s : State) (sound : unsound s ≡ false) where
+  cache : length (s .keys) ≡ cacheSize
+  cache = sound-cache s sound
+
+  when-kek : (b : Bool) (t : State) → keyEncryptionKey t ≡ keyEncryptionKey s → keyEncryptionKey (onlyWhen b t s) ≡ keyEncryptionKey s
+  when-kek true t e = e
+  when-kek false t e = refl
+
+  pub kek-effect : (f : Frame) → Fit f → Passes s f → keyEncryptionKey (effect s f) ≡ keyEncryptionKey s
+  unfolding frameRule order.manage order.release order.load order.loadWrapped order.replace order.clearOne order.clearAll order.command
+      order.setFeatures order.getFeatures order.bootWrite order.reset order.discovery setCount zeroMarks markCovered
+  kek-effect (manage ns tags) fit p = refl
+  kek-effect (release ns) fit p = emptied-kek s cache ns (is-namespace ns (p .0))
+  kek-effect (load ns tag x) fit p = store-kek s cache ns tag (named-slot s sound ns tag (is-namespace ns (p .0)) (p .1 .1 .0)) x fit
+  kek-effect (loadWrapped ns tag x) fit p =
+      store-kek s cache ns tag (named-slot s sound ns tag (is-namespace ns (p .0)) (p .1 .1 .0)) _ (opened-fit s x fit (p .1 .1 .1 .0))
+  kek-effect (replace ns tag old x) fit p = store-kek s cache ns tag (named-slot s sound ns tag (is-namespace ns (p .0)) (p .1 .1 .0)) x fit
+  kek-effect (clearOne ns tag) fit p = empty-kek s cache ns tag (named-slot s sound ns tag (is-namespace ns (p .0)) (p .1 .1 .0))
+  kek-effect (clearAll ns) fit p = emptied-kek s cache ns (is-namespace ns (p .0))
+  kek-effect (io c) fit p = when-kek (managed s (c .ns) && isWrite c) (markCovered s c) refl
+  kek-effect (setFeatures dword11) fit p = refl
+  kek-effect getFeatures fit p = refl
+  kek-effect (bootWrite partition) fit p = refl
+  kek-effect (reset level) fit p = when-kek (isPowerCycle level) (powerCycled s) (all-kek s cache)
+  kek-effect discovery fit p = refl
+  kek-effect unknown fit p = refl

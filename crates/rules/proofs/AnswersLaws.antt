@@ -21,7 +21,7 @@ use Rattle.rules.specs.declared.Refusal.the-variants.{InvalidOpcode, Inv
 use Rattle.rules.specs.declared.Refusal.the-variants.{BlocksOutOfRange, LockNotChangeable, BootWriteProhibited, NotAFrameLine, UnknownKind}
 use Rattle.rules.specs.declared.Refusal.the-variants.{WrongLength, BadKeyUidLength, AlreadyManaged, NotManaged, BadTagCount, PoolTooSmall}
 use Rattle.rules.specs.declared.Refusal.the-variants.{SlotOccupied, SlotEmpty, OtherOldKeyUid, OtherKey, WrongStore, UnsoundState}
-use Rattle.rules.specs.declared.Refusal.the-variants.{OutputTooShort, NotAResponse, InvalidMessage, InvalidMessageKeyUid}
+use Rattle.rules.specs.declared.Refusal.the-variants.{OutputTooShort, IntegrityFailed, NotAResponse, InvalidMessage, InvalidMessageKeyUid}
 use Rattle.rules.specs.declared.Answer.{Answer}
 use Rattle.rules.specs.declared.Answer.the-variants.{Done, LockStates, Discovery, Refused}
 use Rattle.cells.specs.Cells.{zeros}
@@ -35,9 +35,9 @@ use Rattle.rules.specs.Locks.{lockValue}
 use Rattle.rules.specs.Checks.{Check, _when_, Verdict, passed, refused, firstRefusal, settle, refusing, onlyIf}
 use Rattle.rules.specs.FrameLine.{decoded, lineChecks}
 use Rattle.rules.specs.State.{State, Rule, refuse, managed}
-use Rattle.rules.specs.Frames.{Frame, manage, release, load, replace, clearOne, clearAll, io}
+use Rattle.rules.specs.Frames.{Frame, manage, release, load, loadWrapped, replace, clearOne, clearAll, io}
 use Rattle.rules.specs.Frames.{setFeatures, getFeatures, bootWrite, reset, discovery, unknown}
-use Rattle.rules.specs.Frames.{readLoad, readReplace, readMessage, unknownKind, kinds, readFrame}
+use Rattle.rules.specs.Frames.{readLoad, readReplace, readMessage, readWrapped, unknownKind, kinds, readFrame}
 use Rattle.rules.specs.Order as order
 use Rattle.rules.specs.Order.{commandChecks, keyChecks, markCheck, isReading, frameRule, frameOf, readingChecks, lineRule, step}
 use Rattle.rules.specs.Call.{discoveryLine, roomFor}
@@ -91,7 +91,7 @@ refusalOf n =
     named
     (InvalidOpcode ∷ InvalidField ∷ InvalidNamespace ∷ InvalidKeyTag ∷ IncorrectKey ∷ BlocksOutOfRange ∷ LockNotChangeable ∷ BootWriteProhibited
     ∷ NotAFrameLine Empty ∷ UnknownKind ∷ WrongLength ∷ BadKeyUidLength ∷ AlreadyManaged ∷ NotManaged ∷ BadTagCount ∷ PoolTooSmall
-    ∷ SlotOccupied ∷ SlotEmpty ∷ OtherOldKeyUid ∷ OtherKey ∷ WrongStore ∷ UnsoundState ∷ OutputTooShort ∷ NotAResponse
+    ∷ SlotOccupied ∷ SlotEmpty ∷ OtherOldKeyUid ∷ OtherKey ∷ WrongStore ∷ UnsoundState ∷ OutputTooShort ∷ IntegrityFailed ∷ NotAResponse
     ∷ InvalidMessage ∷ [])
     n
 
@@ -142,6 +142,7 @@ named-back OtherKey h = refl
 named-back WrongStore h = refl
 named-back UnsoundState h = refl
 named-back OutputTooShort h = refl
+named-back IntegrityFailed h = refl
 named-back NotAResponse h = refl
 named-back InvalidMessage h = refl
 named-back InvalidMessageKeyUid h = refl
@@ -176,6 +177,7 @@ some-number OtherKey e = omega arith
 some-number WrongStore e = omega arith
 some-number UnsoundState e = omega arith
 some-number OutputTooShort e = omega arith
+some-number IntegrityFailed e = omega arith
 some-number NotAResponse e = omega arith
 some-number InvalidMessage e = omega arith
 some-number InvalidMessageKeyUid e = omega arith
@@ -272,11 +274,12 @@ value-small WriteLocked = omega arith
 value-small WriteLockedUntilPowerCycle = omega arith
 
 sayable-frame : (s : State) (f : Frame) → Sayable (frameRule s f .answer)
-unfolding frameRule order.manage order.release order.load order.replace order.clearOne order.clearAll
+unfolding frameRule order.manage order.release order.load order.loadWrapped order.replace order.clearOne order.clearAll
     order.command order.setFeatures order.getFeatures order.bootWrite order.reset order.discovery
 sayable-frame s (manage ns tags) = tt
 sayable-frame s (release ns) = tt
 sayable-frame s (load ns tag x) = tt
+sayable-frame s (loadWrapped ns tag x) = tt
 sayable-frame s (replace ns tag old x) = tt
 sayable-frame s (clearOne ns tag) = tt
 sayable-frame s (clearAll ns) = tt
@@ -317,7 +320,7 @@ without ((q when false) ∷ cs) r n e = without cs r (by (faultOf q) n) e
     by (some why) n = absurd (true≢false (sym n))
 
 kind-faults : (f : List ℕ) (k : ℕ) → noFaults (getD (kinds f) k unknownKind .checks) ≡ true
-unfolding kinds readLoad readReplace readMessage noFaults faultOf
+unfolding kinds readLoad readReplace readMessage readWrapped noFaults faultOf
 kind-faults f zero = refl
 kind-faults f (suc zero) = refl
 kind-faults f (suc (suc zero)) = refl
@@ -332,7 +335,8 @@ kind-faults f (suc (suc (suc (suc (suc (suc (suc (suc (suc (suc zero)))))))))) =
 kind-faults f (suc (suc (suc (suc (suc (suc (suc (suc (suc (suc (suc zero))))))))))) = refl
 kind-faults f (suc (suc (suc (suc (suc (suc (suc (suc (suc (suc (suc (suc zero)))))))))))) = refl
 kind-faults f (suc (suc (suc (suc (suc (suc (suc (suc (suc (suc (suc (suc (suc zero))))))))))))) = refl
-kind-faults f (suc (suc (suc (suc (suc (suc (suc (suc (suc (suc (suc (suc (suc (suc k)))))))))))))) = refl
+kind-faults f (suc (suc (suc (suc (suc (suc (suc (suc (suc (suc (suc (suc (suc (suc zero)))))))))))))) = refl
+kind-faults f (suc (suc (suc (suc (suc (suc (suc (suc (suc (suc (suc (suc (suc (suc (suc k))))))))))))))) = refl
 
 command-faults : (s : State) (c : Command) (m r : Bool)
     → noFaults (commandChecks c ++ onlyIf m (keyChecks s c ++ onlyIf r (markCheck s c))) ≡ true
@@ -342,11 +346,12 @@ command-faults s c true false = refl
 command-faults s c false r = refl
 
 rule-faults : (s : State) (f : Frame) → noFaults (frameRule s f .checks) ≡ true
-unfolding frameRule order.manage order.release order.load order.replace order.clearOne order.clearAll
+unfolding frameRule order.manage order.release order.load order.loadWrapped order.replace order.clearOne order.clearAll
     order.command order.setFeatures order.getFeatures order.bootWrite order.reset order.discovery noFaults faultOf
 rule-faults s (manage ns tags) = refl
 rule-faults s (release ns) = refl
 rule-faults s (load ns tag x) = refl
+rule-faults s (loadWrapped ns tag x) = refl
 rule-faults s (replace ns tag old x) = refl
 rule-faults s (clearOne ns tag) = refl
 rule-faults s (clearAll ns) = refl
@@ -389,11 +394,12 @@ sayable-step s line = said s (lineRule s line) (firstRefusal (lineRule s line .c
 
 -- only a line that is read as discovery is answered so
 asks : (s : State) (f : Frame) → frameRule s f .answer ≡ Discovery → f ≡ discovery
-unfolding frameRule order.manage order.release order.load order.replace order.clearOne order.clearAll
+unfolding frameRule order.manage order.release order.load order.loadWrapped order.replace order.clearOne order.clearAll
     order.command order.setFeatures order.getFeatures order.bootWrite order.reset order.discovery
 asks s (manage ns tags) e = absurd (let z : _≡_ {A = ℕ} 0 1 = cc in omega arith)
 asks s (release ns) e = absurd (let z : _≡_ {A = ℕ} 0 1 = cc in omega arith)
 asks s (load ns tag x) e = absurd (let z : _≡_ {A = ℕ} 0 1 = cc in omega arith)
+asks s (loadWrapped ns tag x) e = absurd (let z : _≡_ {A = ℕ} 0 1 = cc in omega arith)
 asks s (replace ns tag old x) e = absurd (let z : _≡_ {A = ℕ} 0 1 = cc in omega arith)
 asks s (clearOne ns tag) e = absurd (let z : _≡_ {A = ℕ} 0 1 = cc in omega arith)
 asks s (clearAll ns) e = absurd (let z : _≡_ {A = ℕ} 0 1 = cc in omega arith)

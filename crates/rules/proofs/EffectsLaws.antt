@@ -8,17 +8,17 @@ use mathlib.Core.Logic.{_⊎_, inl, inr, by-cases}
 use Prim.Native.Nat.{ℕ, _+_, _-_, _*_, _≤_, _<_}
 use native.Mathlib.Decide.{decLt}
 use native.Mathlib.Omega.{arith}
-use lib.ListN.{length, take, length-take, length-set}
+use lib.ListN.{length, take, drop, length-take, length-set}
 use lib.Seq.{getD-set-same, getD-set-other}
 use lib.Dec.{leb}
 use borrow.Author.Tests.{eq-eqb, leb-true, leb-false, le-leb}
-use Rattle.cells.specs.Cells.{cell, put}
-use Rattle.cells.proofs.CellsLaws.{length-zeros, length-put, cell-put-same, cell-put-other, length-fill, cell-fill-in, cell-fill-out}
+use Rattle.cells.specs.Cells.{copies, cell, put, fill}
+use Rattle.cells.proofs.CellsLaws.{length-zeros, length-copies, drop-write, length-put, cell-put-same, cell-put-other, length-fill, cell-fill-in, cell-fill-out}
 use Rattle.cells.proofs.PredicatesLaws.{and-left, and-right}
 use Rattle.rules.specs.declared.Namespace.{Namespace}
 use Rattle.rules.specs.declared.Tag.{Tag}
-use Rattle.rules.specs.Numbers.{blocksEach, tagsMost, slotWidth, slotPlaces, cacheSize, markWidth, storeSize, uidMost}
-use Rattle.rules.specs.State.{State, Sized, keyTag, sameNamespace, sameTag, count, tagAbove, IsNamespace}
+use Rattle.rules.specs.Numbers.{blocksEach, tagsMost, slotWidth, slotPlaces, slotsSize, cacheSize, markWidth, storeSize, uidMost}
+use Rattle.rules.specs.State.{State, Sized, keyEncryptionKey, keyTag, sameNamespace, sameTag, count, tagAbove, IsNamespace}
 use Rattle.rules.specs.Slots.{Contents, placeOf, slot, emptied, slotBytes, Held, nothing, holding, held, FitKey, IsSlot}
 use Rattle.rules.specs.Marks.{blockOf, mark, keptIdentity, neverWritten, identityOf}
 use Rattle.rules.specs.Sound.{unsound}
@@ -113,6 +113,40 @@ module _ (s : State) (sized : Sized s) where
   all-emptied ns tag is =
       let z : placeOf ns tag ≡ 0 + placeOf ns tag = omega arith in
       rw z (cell-fill-in slotWidth 0 slotPlaces emptied (s .keys) (omega (arith, cache)) (length-zeros slotWidth) (placeOf ns tag) (place-small ns tag is))
+
+-- ------------------------------------------------------------------------
+-- The key-encryption key lies behind every slot
+
+module _ (s : State) (whole : length (s .keys) ≡ cacheSize) where
+  abbrev KekStays : List ℕ → Type 0
+  KekStays keys = drop slotsSize keys ≡ keyEncryptionKey s
+
+  put-kek : (n : Namespace) (t : Tag) → IsSlot n t → (v : List ℕ) → length v ≡ slotWidth → KekStays (put slotWidth (placeOf n t) v (s .keys))
+  unfolding put
+  put-kek n t named v full =
+      drop-write (placeOf n t * slotWidth) slotWidth v (s .keys) (omega (arith, whole)) full slotsSize (omega arith)
+
+  fill-kek : (i n : ℕ) → i + n ≤ slotPlaces → KekStays (fill slotWidth i n emptied (s .keys))
+  unfolding fill
+  fill-kek i n h =
+      drop-write (i * slotWidth) (n * slotWidth) (copies n emptied) (s .keys) (omega (arith, whole)) (length-copies slotWidth n emptied (length-zeros slotWidth))
+      slotsSize (omega arith)
+
+  pub store-kek : (n : Namespace) (t : Tag) → IsSlot n t → (x : Contents) → FitKey x → keyEncryptionKey (storeKey s n t x) ≡ keyEncryptionKey s
+  unfolding storeKey
+  store-kek n t named x fit = put-kek n t named (slotBytes x) (length-slot x fit)
+
+  pub empty-kek : (n : Namespace) (t : Tag) → IsSlot n t → keyEncryptionKey (emptySlot s n t) ≡ keyEncryptionKey s
+  unfolding emptySlot
+  empty-kek n t named = put-kek n t named emptied (length-zeros slotWidth)
+
+  pub emptied-kek : (n : Namespace) → IsNamespace n → keyEncryptionKey (emptySlots s n) ≡ keyEncryptionKey s
+  unfolding emptySlots
+  emptied-kek n is = fill-kek (placeOf n (keyTag 0)) tagsMost (omega arith)
+
+  pub all-kek : keyEncryptionKey (emptyAllSlots s) ≡ keyEncryptionKey s
+  unfolding emptyAllSlots
+  all-kek = fill-kek 0 slotPlaces (omega arith)
 
 -- ------------------------------------------------------------------------
 -- Marks

@@ -14,9 +14,9 @@ use Rattle.rules.specs.FrameLine.{firstBad, decoded, lineChecks, readLin
 use Rattle.rules.specs.Slots.{padded, slotBytes, uidOf, keyOf, held, otherKeyIn, otherKey}
 use Rattle.rules.specs.Marks.{keptIdentity}
 use Rattle.rules.specs.Sound.{someAbove, slotUnsound, unsound}
-use Rattle.rules.specs.Frames.{commandOf, readLoad, readReplace, readMessage, kinds, readFrame}
+use Rattle.rules.specs.Frames.{commandOf, readLoad, readReplace, readMessage, readWrapped, kinds, readFrame}
 use Rattle.rules.specs.Effects.{setCount, storeKey, emptySlot, emptySlots, emptyAllSlots, zeroMarks, markCovered}
-use Rattle.rules.specs.Order.{manage, release, clearAll, load, replace, clearOne, wrongKey, command}
+use Rattle.rules.specs.Order.{manage, release, clearAll, load, loadWrapped, replace, clearOne, wrongKey, command}
 use Rattle.rules.specs.Order.{setFeatures, getFeatures, bootWrite, reset, discovery}
 use Rattle.rules.specs.Order.{frameRule, lineRule}
 use Rattle.rules.specs.Start.{freshRegisters}
@@ -31,6 +31,6 @@ unfolding part write zeros copies cell put fill same allZero someFrom someCell f
     storeKey emptySlot emptySlots emptyAllSlots zeroMarks markCovered manage release clearAll load replace clearOne wrongKey command setFeatures
     headerBytes tperBytes keyPerIoBytes response ownHeader ownTper ownKeyPerIo ownFields
     getFeatures bootWrite reset discovery frameRule lineRule freshRegisters roomFor unanswered answered call linesOf endState answersTo answerLines roomForAll
-    readMessage bigEndian isValue frontOf front withValue withStructure onFront readBy readAt from valueThen structureThen inOrder lacks eachVendored named
+    readMessage readWrapped loadWrapped bigEndian isValue frontOf front withValue withStructure onFront readBy readAt from valueThen structureThen inOrder lacks eachVendored named
     isRequest loadIn noSession allAnswered session codes rightOn allRightOn table sessionRight
 examples-right = (all-right-on table ∙ refl, refl)

@@ -17,7 +17,7 @@ use Rattle.rules.specs.State.{State, Sized}
 use Rattle.rules.specs.Sound.{unsound}
 use Rattle.rules.specs.Locks.{sameLock}
 use Rattle.rules.specs.Order.{step}
-use Rattle.rules.specs.Start.{fresh}
+use Rattle.rules.specs.Start.{fresh, programKek}
 use Rattle.rules.specs.Call.{callChecks, roomFor, answered, call}
 use Rattle.rules.specs.Examples.{Entry, _answers_, partitions, codes, _⁀_, right, allRight}
 use Rattle.rules.proofs.CallLaws.{call-read}
@@ -34,7 +34,7 @@ rightOn s (partitions a b ∷ row) = sameLock (s .registers .locks .partition0) 
 
 unfoldable pub allRightOn : List (List Entry) → Bool
 allRightOn [] = true
-allRightOn (row ∷ rows) = rightOn fresh row && allRightOn rows
+allRightOn (row ∷ rows) = rightOn (fresh programKek) row && allRightOn rows
 
 -- a call with just the room that its line asks
 admitted : (s : State) → Sized s → unsound s ≡ false → (line : List ℕ)
@@ -56,4 +56,4 @@ right-on s sized sound (partitions a b ∷ row) = rw (right-on s sized sound row
 pub all-right-on : (rows : List (List Entry)) → allRight rows ≡ allRightOn rows
 unfolding allRight allRightOn
 all-right-on [] = refl
-all-right-on (row ∷ rows) = rw (right-on fresh (kept-fresh .sized) (kept-fresh .sound) row, all-right-on rows)
+all-right-on (row ∷ rows) = let k = kept-fresh programKek refl in rw (right-on (fresh programKek) (k .sized) (k .sound) row, all-right-on rows)

@@ -20,6 +20,7 @@ pub mod MarksLaws
 pub mod HistoryLaws
 pub mod PoolLaws
 pub mod LocksLaws
+pub mod WrappedLaws
 pub mod Promised
 pub mod DiscoveryPromised
 pub mod ExamplesLaws

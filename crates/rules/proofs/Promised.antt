@@ -3,49 +3,58 @@
 -- Assumes nothing.
 use mathlib.Core.Path.{_≡_, refl, sym, ap, _∙_}
 use mathlib.Core.Bool.{Bool, true, false, not, cond, true≢false}
+use mathlib.Core.Option.{Option, none, some}
 use mathlib.Core.List.{List, [], _∷_, _++_}
 use mathlib.Core.Logic.{_↔_, _⊎_, inl, inr, ⊎-elim}
 use Prim.Native.Nat.{ℕ, _+_, _≤_, _<_}
 use native.Mathlib.Omega.{arith}
-use lib.ListN.{getD}
+use lib.ListN.{length, getD}
+use lib.Seq.{drop-at}
 use lib.Dec.{eqb, leb}
 use borrow.Author.Tests.{eqb-true, eqb-false, ltb-false, leb-true, not-false}
+use Rattle.cells.specs.Cells.{zeros}
+use Rattle.cells.proofs.CellsLaws.{length-zeros}
 use Rattle.cells.proofs.PredicatesLaws.{and-right}
 use Rattle.rules.specs.declared.Namespace.{Namespace}
 use Rattle.rules.specs.declared.Tag.{Tag}
 use Rattle.rules.specs.declared.Answer.the-variants.{Done, Refused}
 use Rattle.rules.specs.declared.Command.{Command}
-use Rattle.rules.specs.Numbers.{blocksEach}
+use Rattle.rules.specs.Numbers.{blocksEach, slotsSize, storeSize}
 use Rattle.rules.specs.Checks.{Check, _when_, judged, onlyIf, AllPass}
-use Rattle.rules.specs.Answers.{lineFeed, 00·28}
-use Rattle.rules.specs.State.{State, Outcome, Rule, refuse, obey, managed, IsNamespace}
-use Rattle.rules.specs.Slots.{Contents, slot, empty, loaded, uidOf, keyOf, contentsOf, Held, nothing, holding, uidHeld, held}
+use Rattle.rules.specs.Answers.{lineFeed, 00·28, 07·10}
+use Rattle.rules.specs.State.{State, Outcome, Rule, Sized, refuse, obey, keyEncryptionKey, noNamespace, managed, tagAbove, IsNamespace}
+use Rattle.rules.specs.Slots.{Contents, IsSlot, slot, otherKey, empty, loaded, uidOf, keyOf, contentsOf, Held, nothing, holding, uidHeld, held}
 use Rattle.rules.specs.Marks.{mark, keptIdentity, neverWritten, identityOf, differs}
-use Rattle.rules.specs.Frames.{manage, load, io, reset}
+use Rattle.rules.specs.Frames.{manage, load, loadWrapped, io, reset, bringsNothing, brought}
+use Rattle.rules.specs.declared.Refusal.{Refusal}
+use Rattle.rules.specs.KeyWrap.{unwrap}
+use Rattle.rules.specs.Sound.{unsound}
 use Rattle.rules.specs.Effects.{emptyAllSlots}
 use Rattle.rules.specs.Order as order
-use Rattle.rules.specs.Order.{frameRule, frameOf, lineRule, step, isReading, commandChecks, keyChecks, markCheck, wrongKey}
+use Rattle.rules.specs.Order.{frameRule, frameOf, lineRule, step, slotChecks, withUid, opened, isReading, commandChecks, keyChecks, markCheck, wrongKey}
 use Rattle.rules.specs.Call.{callChecks, roomFor, Called, unanswered, answered}
-use Rattle.rules.specs.Sessions.{joined, linesOf, Session, noSession, allAnswered}
+use Rattle.rules.specs.Sessions.{joined, linesOf, endState, Session, noSession, allAnswered}
 use Rattle.rules.specs.Start.{fresh, freshWith, emptiedCache, startChecks, start}
 use Rattle.rules.specs.Promises.{NumbersAsNamed, NoneFed, EndsUnfed, GiveBack, LinesOfText}
 use Rattle.rules.specs.Promises.{Starts, StartRefusedWhen, StartRefusedKeeps, StartsFresh}
 use Rattle.rules.specs.History.{Event, holds, covers, lastWritten}
 use Rattle.rules.specs.Promises.{Calls, Sessions, FromFresh, Steps, checksOf, sessionChecks, RefusedWhen, DoneWhen, RefusedKeeps, Writes}
-use Rattle.rules.specs.Promises.{SessionRefusedWhen, SessionRefusedKeeps, SessionAnswers, SlotAsTold, OneKeyForAKeyUid, CountAsTold, NeverUnsound}
+use Rattle.rules.specs.Promises.{SessionRefusedWhen, SessionRefusedKeeps, SessionAnswers, KekStays, SessionKekStays, SlotAsTold, OneKeyForAKeyUid, CountAsTold, NeverUnsound}
 use Rattle.rules.specs.Promises.{SameKeyUidOrNever, LoadFindsNothing, PoolTooSmallWhen, SoundKept, HeldUntilPowerCycle, ControllerResetKeeps}
-use Rattle.rules.specs.Promises.{PowerCycleLocks, MarkTellsKeyUid}
+use Rattle.rules.specs.Promises.{PowerCycleLocks, MarkTellsKeyUid, IntegrityFailsWhen, WrappedLoadsAsClear}
 use Rattle.rules.proofs.ChecksLaws.{judged-append, judged-pass, judged-cases, judged-map, by-verdict}
 use Rattle.rules.proofs.StateLaws as state
 use Rattle.rules.proofs.StateLaws.{done, accepted-not, is-namespace}
 use Rattle.rules.proofs.SlotsLaws.{held-bytes}
+use Rattle.rules.proofs.SoundLaws.{sound-cache}
 use Rattle.rules.proofs.EffectsLaws.{named-slot}
 use Rattle.rules.proofs.MarksLaws.{agrees, never-differs, same-differs, never-then, mark-then, same-held, held-same}
 use Rattle.rules.proofs.MarksLaws.{right-key-then, then-right-key}
-use Rattle.rules.proofs.TakenLaws.{refused-or-taken, read-as, accepts-line, sound-step}
+use Rattle.rules.proofs.TakenLaws.{refused-or-taken, read-as, accepts-line, sound-step, kek-step}
 use Rattle.rules.proofs.CallLaws.{callRule, outcome, call-obeys, call-unread, call-read, judgedOnce, session-judged, session-unread, session-ran}
 use Rattle.rules.proofs.PoolLaws.{pool-too-small}
 use Rattle.rules.proofs.LocksLaws.{held-effect}
+use Rattle.rules.proofs.WrappedLaws.{wrappedRule, wrapped-is, loads-clear, fourth, none-brought}
 use Rattle.rules.proofs.HistoryLaws.{Kept, kept, named-key}
 
 -- ------------------------------------------------------------------------
@@ -76,6 +85,7 @@ numbers-as-named = record {
   is-07·0D = refl;
   is-07·0E = refl;
   is-07·0F = refl;
+  is-07·10 = refl;
   is-07·16 = refl;
   is-07·17 = refl;
   is-07·18 = refl;
@@ -90,10 +100,10 @@ joined-back : (b : ℕ) → (b ≡ lineFeed → ⊥) → (lines : List (List ℕ
     → GiveBack lines text
     → (lines ≡ [] → text ≡ [])
     → NoneFed (joined b lines) × GiveBack (joined b lines) (b ∷ text)
-joined-back b n [] text none back first =
+joined-back b n [] text unfed back first =
     (((n, tt), tt), inr (ap (λ t. b ∷ (t ++ (lineFeed ∷ []))) (sym (first refl)), rw (first refl) n))
-joined-back b n (line ∷ lines) text none back first =
-    (((n, none .0), none .1), ⊎-elim (λ e. inl (ap (λ t. b ∷ t) e)) (λ e. inr (ap (λ t. b ∷ t) (e .0), longer-unfed b text (e .1))) back)
+joined-back b n (line ∷ lines) text unfed back first =
+    (((n, unfed .0), unfed .1), ⊎-elim (λ e. inl (ap (λ t. b ∷ t) e)) (λ e. inr (ap (λ t. b ∷ t) (e .0), longer-unfed b text (e .1))) back)
 
 no-text : (text : List ℕ) → linesOf text ≡ [] → text ≡ []
 unfolding linesOf
@@ -123,31 +133,33 @@ unfolding linesOf
 lines-of-text [] = (tt, inl refl)
 lines-of-text (b ∷ text) = one-byte b text (lines-of-text text) (eqb b lineFeed) refl
 
-startRule : List ℕ → List ℕ → Rule
-startRule keys store = record { checks = startChecks keys store; answer = Done; effect = fresh }
+startRule : List ℕ → List ℕ → List ℕ → Rule
+startRule kek keys store = record { checks = startChecks keys store; answer = Done; effect = fresh kek }
 
 pub start-refused-when : StartRefusedWhen Starts
 unfolding start startRule
-start-refused-when keys store o l r =
+start-refused-when kek keys store o l r =
     let cs = startChecks keys store in
-    let e : o .answer ≡ obey fresh (startRule keys store) .answer =
+    let e : o .answer ≡ obey (fresh kek) (startRule kek keys store) .answer =
     ap (λ (x : Outcome). x .answer) l ∙ judged-map cs (λ (x : Outcome). x .answer) _ _ ∙ sym (judged-map cs (λ (x : Outcome). x .answer) _ _) in
-    let w = state.refused-when fresh (startRule keys store) r refl in
+    let w = state.refused-when (fresh kek) (startRule kek keys store) r refl in
     (λ p. w .0 (sym e ∙ p), λ f. e ∙ w .1 f)
 
 pub start-refused-keeps : StartRefusedKeeps Starts
 unfolding start
-start-refused-keeps keys store o l r p =
+start-refused-keeps kek keys store o l r p =
     ⊎-elim
     (λ f. ap (λ (x : Outcome). x .state) (l ∙ f .1))
     (λ q. absurd (accepted-not Done r refl (sym (ap (λ (x : Outcome). x .answer) (l ∙ q .1)) ∙ p)))
     (judged-cases (startChecks keys store)
-    (λ q. record { answer = Refused q; state = freshWith (emptiedCache keys) store })
-    (record { answer = Done; state = fresh }))
+    (λ q. record { answer = Refused q; state = freshWith (emptiedCache kek keys) store })
+    (record { answer = Done; state = fresh kek }))
 
 pub starts-fresh : StartsFresh Starts
 unfolding start
-starts-fresh keys store o l p = l ∙ judged-pass (startChecks keys store) _ _ p
+starts-fresh kek keys store o l p =
+    let e : o ≡ record { answer = Done; state = fresh kek } = l ∙ judged-pass (startChecks keys store) _ _ p in
+    (e, ap (λ (x : Outcome). keyEncryptionKey (x .state)) e ∙ drop-at (zeros slotsSize) kek slotsSize (length-zeros slotsSize))
 
 -- ------------------------------------------------------------------------
 -- Calls
@@ -172,6 +184,14 @@ refused-keeps s line out o l r p =
     ap (λ (x : Outcome). x .state) e
     ∙ state.refused-keeps s (callRule s line out) r (accepts-line s line) (sym (ap (λ (x : Outcome). x .answer) e) ∙ p)
 
+pub kek-stays : KekStays Calls
+unfolding unanswered answered
+kek-stays s line out o l =
+    ⊎-elim
+    (λ f. ap (λ (c : Called). keyEncryptionKey (c .state)) (l ∙ call-unread s line out (f .0) (f .1 .0)))
+    (λ p. ap (λ (c : Called). keyEncryptionKey (c .state)) (l ∙ call-read s line out (p .0)) ∙ kek-step s line (p .0 .1 .1 .0))
+    (by-verdict (callChecks s (roomFor line) out) Refused Done)
+
 pub writes : Writes Calls
 unfolding unanswered answered
 writes s line out o l =
@@ -194,6 +214,28 @@ pub session-refused-keeps : SessionRefusedKeeps Sessions
 unfolding noSession
 session-refused-keeps s text out o l r p = l ∙ session-unread s text out r (session-refused-when s text out o l r .0 p)
 
+lines-kek : (lines : List (List ℕ)) (s : State) → Sized s → unsound s ≡ false → keyEncryptionKey (endState s lines) ≡ keyEncryptionKey s
+unfolding endState
+lines-kek [] s sized sound = refl
+lines-kek (line ∷ lines) s sized sound =
+    let next = sound-step s line sized sound in
+    lines-kek lines (step s line .state) (next .0) (next .1) ∙ kek-step s line sound
+
+pub session-kek-stays : SessionKekStays Sessions
+unfolding noSession allAnswered
+session-kek-stays s text out o l counts =
+    ⊎-elim
+    (λ f. ap (λ (c : Session). keyEncryptionKey (c .state)) (l ∙ session-unread s text out (f .0) (f .1 .0)))
+    (λ p. ap (λ (c : Session). keyEncryptionKey (c .state)) (l ∙ session-ran s text out (p .0)) ∙ lines-kek (linesOf text) s (sized (p .0)) (p .0 .1 .1 .0))
+    (by-verdict (sessionChecks s text out) Refused Done)
+  where
+    sized : AllPass (sessionChecks s text out) → Sized s
+    sized p = record {
+      counts = counts;
+      cache = sound-cache s (p .1 .1 .0);
+      store = eqb-true (length (s .marks)) storeSize (not-false _ (p .1 .0));
+    }
+
 pub session-answers : SessionAnswers Sessions
 unfolding allAnswered
 session-answers s text out o l p = rw (l ∙ session-ran s text out p) (refl, (refl, (refl, (refl, refl))))
@@ -210,7 +252,7 @@ never-unsound h s led = kept h s led .sound
 pub slot-as-told : SlotAsTold FromFresh
 slot-as-told h s led ns tag is =
     let k = kept h s led in
-    ap held (k .slots ns tag is) ∙ held-bytes (holds ns tag h) (k .fit ns tag)
+    ap held (k .slots ns tag is) ∙ held-bytes (holds (keyEncryptionKey s) ns tag h) (k .fit ns tag)
 
 held-is : (c : List ℕ) (x : Contents) → held c ≡ holding x → (loaded c ≡ true) × ((uidOf c ≡ x .uid) × (keyOf c ≡ x .key))
 unfolding held
@@ -231,18 +273,26 @@ empty-held : (c : List ℕ) → loaded c ≡ false → held c ≡ nothing
 unfolding held
 empty-held c e = rw (not-false (empty c) e)
 
-loads-empty : (s : State) (h : List Event) → Kept s h → (ns : Namespace) (tag : Tag) (x : Contents) → AllPass (frameRule s (load ns tag x) .checks)
-    → holds ns tag h ≡ nothing
-unfolding frameRule order.load
-loads-empty s h k ns tag x p =
-    let is = named-slot s (k .sound) ns tag (is-namespace ns (p .0)) (p .1 .1 .0) in
-    sym (held-bytes (holds ns tag h) (k .fit ns tag)) ∙ ap held (sym (k .slots ns tag is)) ∙ empty-held (slot s ns tag) (p .1 .1 .1 .0)
+module _ (kek : List ℕ) (s : State) (h : List Event) (k : Kept kek s h) (ns : Namespace) (tag : Tag) where
+  found-empty : IsSlot ns tag → loaded (slot s ns tag) ≡ false → holds kek ns tag h ≡ nothing
+  found-empty is e = sym (held-bytes (holds kek ns tag h) (k .fit ns tag)) ∙ ap held (sym (k .slots ns tag is)) ∙ empty-held (slot s ns tag) e
+
+  loads-empty : (x : Contents) → AllPass (frameRule s (load ns tag x) .checks) → holds kek ns tag h ≡ nothing
+  unfolding frameRule order.load
+  loads-empty x p = found-empty (named-slot s (k .sound) ns tag (is-namespace ns (p .0)) (p .1 .1 .0)) (p .1 .1 .1 .0)
+
+  wrapped-empty : (x : Contents) → AllPass (frameRule s (loadWrapped ns tag x) .checks) → holds kek ns tag h ≡ nothing
+  unfolding frameRule order.loadWrapped
+  wrapped-empty x p = found-empty (named-slot s (k .sound) ns tag (is-namespace ns (p .0)) (p .1 .1 .0)) (p .1 .1 .1 .1 .0)
 
 pub load-finds-nothing : LoadFindsNothing Steps
 load-finds-nothing h s line answer (led, e) ns tag x is acc =
     ⊎-elim
     (λ r. absurd (accepted-not answer (r .0) acc (e ∙ ap (λ o. o .answer) (r .1))))
-    (λ t. loads-empty s h (kept h s led) ns tag x (rw (← is) (t .passes)))
+    (λ t. ⊎-elim
+    (λ e. loads-empty (keyEncryptionKey s) s h (kept h s led) ns tag x (rw (← e) (t .passes)))
+    (λ e. wrapped-empty (keyEncryptionKey s) s h (kept h s led) ns tag x (rw (← e) (t .passes)))
+    is)
     (refused-or-taken s line)
 
 pub count-as-told : CountAsTold FromFresh
@@ -251,7 +301,26 @@ count-as-told h s led ns is = kept h s led .counts ns is
 pub pool-too-small-when : PoolTooSmallWhen Steps
 unfolding frameRule
 pool-too-small-when h s line answer (led, e) ns tags r =
-    rw (e, read-as s line (manage ns tags) r) (pool-too-small s h (kept h s led) ns tags)
+    rw (e, read-as s line (manage ns tags) r) (pool-too-small (keyEncryptionKey s) s h (kept h s led) ns tags)
+
+-- ------------------------------------------------------------------------
+-- Wrapped loads
+
+pub integrity-fails-when : IntegrityFailsWhen
+integrity-fails-when s line ns tag x r =
+    let o = opened (keyEncryptionKey s) x in
+    let came : step s line ≡ obey s (wrappedRule s ns tag o) = read-as s line (loadWrapped ns tag x) r ∙ ap (obey s) (wrapped-is s ns tag x) in
+    let w = fourth s ns tag (noNamespace ns) (not (managed s ns)) (tagAbove s ns tag) (bringsNothing o) (loaded (slot s ns tag))
+    (otherKey (s .keys) (brought o)) (done (wrappedRule s ns tag o)) refl in
+    let n = none-brought s ns tag (x .uid) (unwrap (keyEncryptionKey s) (x .key)) in (
+      λ e. let p = w .0 (sym (ap (λ q. q .answer) came) ∙ e) in (p .0, n .0 (p .1)),
+      λ p. ap (λ q. q .answer) came ∙ w .1 (p .0, n .1 (p .1)),
+    )
+
+pub wrapped-loads-as-clear : WrappedLoadsAsClear
+wrapped-loads-as-clear s line key ns tag x r e =
+    read-as s line (loadWrapped ns tag x) r ∙ ap (obey s) (wrapped-is s ns tag x)
+    ∙ ap (λ o. obey s (wrappedRule s ns tag (withUid (x .uid) o))) e ∙ loads-clear s ns tag (record { uid = x .uid; key = key })
 
 -- ------------------------------------------------------------------------
 -- Boot locks
@@ -306,10 +375,10 @@ passes-when s true o e = (λ q. absurd (accepted-not Done 00·28 refl (sym q)), 
 passes-when s false o e = (λ q. refl, λ q. e)
 
 -- a block's mark against the key that the command names, in terms of the history
-module _ (s : State) (h : List Event) (k : Kept s h) (c : Command) (is : IsNamespace (c .ns)) (m : managed s (c .ns) ≡ true)
+module _ (kek : List ℕ) (s : State) (h : List Event) (k : Kept kek s h) (c : Command) (is : IsNamespace (c .ns)) (m : managed s (c .ns) ≡ true)
     (p : AllPass (keyChecks s c)) (block : ℕ) (inside : block < blocksEach) where
   abbrev last : Held
-  last = lastWritten (c .ns) block h
+  last = lastWritten kek (c .ns) block h
 
   abbrev now : List ℕ
   now = identityOf (held (slot s (c .ns) (c .tag)))
@@ -317,11 +386,11 @@ module _ (s : State) (h : List Event) (k : Kept s h) (c : Command) (is : IsNames
   mark-is : mark s (c .ns) block ≡ identityOf last
   mark-is = k .marks (c .ns) is block inside ∙ ap (λ b. cond b (identityOf last) neverWritten) m
 
-  key-is : now ≡ identityOf (holds (c .ns) (c .tag) h)
-  key-is = ap identityOf (named-key s h k c is p)
+  key-is : now ≡ identityOf (holds kek (c .ns) (c .tag) h)
+  key-is = ap identityOf (named-key kek s h k c is p)
 
   abbrev key : Held
-  key = holds (c .ns) (c .tag) h
+  key = holds kek (c .ns) (c .tag) h
 
   agrees-then : differs now (mark s (c .ns) block) ≡ false → (last ≡ nothing) ⊎ (uidHeld last ≡ uidHeld key)
   agrees-then e =
@@ -351,9 +420,9 @@ same-key-uid-or-never h s line answer (led, is-answer) c reach =
     let came : step s line ≡ judged (markCheck s c) (refuse s) (done (frameRule s (io c))) =
     read-as s line (io c) (reach .0) ∙ mark-check s c (reach .1 .0) m opens key in
     let passing = passes-when s (wrongKey s c) (done (frameRule s (io c))) (done-io s c) in (
-      λ e block v. agrees-then s h k c is m key block (inside block v)
+      λ e block v. agrees-then (keyEncryptionKey s) s h k c is m key block (inside block v)
           (right-key-then s c (passing .0 (ap (λ o. o .answer) (sym came) ∙ (sym is-answer ∙ e))) block v),
       λ d. is-answer
           ∙ ap (λ o. o .answer) came
-          ∙ passing .1 (then-right-key s c (λ block v. then-agrees s h k c is m key block (inside block v) (d block v))),
+          ∙ passing .1 (then-right-key s c (λ block v. then-agrees (keyEncryptionKey s) s h k c is m key block (inside block v) (d block v))),
     )

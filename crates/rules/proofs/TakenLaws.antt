@@ -12,7 +12,7 @@ use Rattle.rules.specs.declared.Refusal.{Refusal}
 use Rattle.rules.specs.Checks.{AllPass}
 use Rattle.rules.specs.Answers.{accepted}
 use Rattle.rules.specs.FrameLine.{decoded}
-use Rattle.rules.specs.State.{State, Sized, refuse, obey, count, tagAbove}
+use Rattle.rules.specs.State.{State, Sized, keyEncryptionKey, refuse, obey, count, tagAbove}
 use Rattle.rules.specs.Slots.{slot, Held, nothing, holding, IsSlot}
 use Rattle.rules.specs.Sound.{slotUnsound, unsound}
 use Rattle.rules.specs.Frames.{Frame}
@@ -24,7 +24,7 @@ use Rattle.rules.proofs.FrameLineLaws.{line-passes}
 use Rattle.rules.proofs.FramesLaws.{Fit, fits}
 use Rattle.rules.proofs.SlotsLaws.{bytesOf}
 use Rattle.rules.proofs.SoundLaws.{sound-emptied, sound-stored, sound-slot, sound-from}
-use Rattle.rules.proofs.AcceptedLaws.{accepts, sized-effect, touched, untouched, Storable, storable, untouched-count, count-effect, counted-effect}
+use Rattle.rules.proofs.AcceptedLaws.{accepts, sized-effect, kek-effect, touched, untouched, Storable, storable, untouched-count, count-effect, counted-effect}
 
 -- ------------------------------------------------------------------------
 -- A line
@@ -76,7 +76,7 @@ module _ (s : State) (sized : Sized s) (sound : unsound s ≡ false) (f : Frame)
     same-count e = count-effect s sized sound ns (is .0) f passes ∙ untouched-count s sized sound ns tag is f (count s ns) e
 
     slot-sound : (b : Bool) → touches ns tag f ≡ b → slotUnsound (tagAbove (frameRule s f .effect) ns tag) (slot (frameRule s f .effect) ns tag) ≡ false
-    slot-sound true e = rw (touched s sized sound ns tag is f fit passes e) (bytes-sound (leaves f) (storable s sized sound ns tag is f fit passes e))
+    slot-sound true e = rw (touched s sized sound ns tag is f fit passes e) (bytes-sound (leaves (keyEncryptionKey s) f) (storable s sized sound ns tag is f fit passes e))
     slot-sound false e = rw (untouched s sized sound ns tag is f fit passes e, same-count e) (sound-slot s sound ns tag is)
 
   pub sound-effect : unsound (frameRule s f .effect) ≡ false
@@ -90,4 +90,12 @@ sound-step s line sized sound =
     ⊎-elim
     (λ r. rw (r .1) (sized, sound))
     (λ t. rw (t .is) (sized-effect s sized sound (frameOf line) (t .fit) (t .passes), sound-effect s sized sound (frameOf line) (t .fit) (t .passes)))
+    (refused-or-taken s line)
+
+-- a line leaves the key-encryption key of a sound drive
+pub kek-step : (s : State) (line : List ℕ) → unsound s ≡ false → keyEncryptionKey (step s line .state) ≡ keyEncryptionKey s
+kek-step s line sound =
+    ⊎-elim
+    (λ r. ap (λ o. keyEncryptionKey (o .state)) (r .1))
+    (λ t. ap (λ o. keyEncryptionKey (o .state)) (t .is) ∙ kek-effect s sound (frameOf line) (t .fit) (t .passes))
     (refused-or-taken s line)

@@ -1,5 +1,6 @@
 -- The history of demand 3: lines with the answers given, newest first, searched
--- backward by plain recursion. Nothing here runs the drive.
+-- backward by plain recursion. Nothing here runs the drive. A wrapped load puts
+-- there what the drive's key-encryption key opens it to.
 -- Assumes nothing.
 use mathlib.Core.Bool.{Bool, false, _&&_, cond}
 use mathlib.Core.List.{List, [], _∷_}
@@ -12,9 +13,9 @@ use Rattle.rules.specs.Answers.{accepted}
 use Rattle.rules.specs.State.{namespace, sameNamespace, sameTag}
 use Rattle.rules.specs.Slots.{Held, nothing, holding}
 use Rattle.rules.specs.declared.Command.{Command}
-use Rattle.rules.specs.Frames.{Frame, manage, release, load, replace, clearOne, clearAll, io}
+use Rattle.rules.specs.Frames.{Frame, manage, release, load, loadWrapped, replace, clearOne, clearAll, io, brought}
 use Rattle.rules.specs.Frames.{setFeatures, getFeatures, bootWrite, reset, discovery, unknown}
-use Rattle.rules.specs.Order.{frameOf, isWrite, isPowerCycle}
+use Rattle.rules.specs.Order.{frameOf, opened, isWrite, isPowerCycle}
 
 pub record Event : Type 0 where
   pub line : List ℕ
@@ -32,11 +33,12 @@ told (line ∷ lines) (a ∷ more) older = told lines more (record { line = line
 -- ------------------------------------------------------------------------
 -- What a slot holds
 
--- A slot is touched by load, replace and clear one of its namespace and tag, by manage, clear all and release of its namespace, and by a power cycle.
+-- A slot is touched by load, wrapped load, replace and clear one of its namespace and tag, by manage, clear all and release of its namespace, and by a power cycle.
 abbrev pub touches : Namespace → Tag → Frame → Bool
 touches ns tag (manage n tags) = sameNamespace ns n
 touches ns tag (release n) = sameNamespace ns n
 touches ns tag (load n t x) = sameNamespace ns n && sameTag tag t
+touches ns tag (loadWrapped n t x) = sameNamespace ns n && sameTag tag t
 touches ns tag (replace n t old x) = sameNamespace ns n && sameTag tag t
 touches ns tag (clearOne n t) = sameNamespace ns n && sameTag tag t
 touches ns tag (clearAll n) = sameNamespace ns n
@@ -48,29 +50,30 @@ touches ns tag (reset level) = isPowerCycle level
 touches ns tag discovery = false
 touches ns tag unknown = false
 
--- what a touched slot then holds: a load and a replace put a key there, the others leave none
-abbrev pub leaves : Frame → Held
-leaves (manage n tags) = nothing
-leaves (release n) = nothing
-leaves (load n t x) = holding x
-leaves (replace n t old x) = holding x
-leaves (clearOne n t) = nothing
-leaves (clearAll n) = nothing
-leaves (io c) = nothing
-leaves (setFeatures dword11) = nothing
-leaves getFeatures = nothing
-leaves (bootWrite partition) = nothing
-leaves (reset level) = nothing
-leaves discovery = nothing
-leaves unknown = nothing
+-- what a touched slot then holds: loads and a replace put a key there, the others leave none
+abbrev pub leaves : List ℕ → Frame → Held
+leaves kek (manage n tags) = nothing
+leaves kek (release n) = nothing
+leaves kek (load n t x) = holding x
+leaves kek (loadWrapped n t x) = holding (brought (opened kek x))
+leaves kek (replace n t old x) = holding x
+leaves kek (clearOne n t) = nothing
+leaves kek (clearAll n) = nothing
+leaves kek (io c) = nothing
+leaves kek (setFeatures dword11) = nothing
+leaves kek getFeatures = nothing
+leaves kek (bootWrite partition) = nothing
+leaves kek (reset level) = nothing
+leaves kek discovery = nothing
+leaves kek unknown = nothing
 
 -- as the last accepted frame that touched the slot says
-unfoldable pub holds : Namespace → Tag → List Event → Held
-holds ns tag [] = nothing
-holds ns tag (e ∷ older) =
+unfoldable pub holds : List ℕ → Namespace → Tag → List Event → Held
+holds kek ns tag [] = nothing
+holds kek ns tag (e ∷ older) =
     cond (accepted (e .answer) && touches ns tag (frameIn e))
-    (leaves (frameIn e))
-    (holds ns tag older)
+    (leaves kek (frameIn e))
+    (holds kek ns tag older)
 
 -- ------------------------------------------------------------------------
 -- What a block was last written under, since its namespace was last managed:
@@ -81,27 +84,28 @@ abbrev pub covers : Command → ℕ → Bool
 covers c block = leb (c .first) block && leb block (c .first + c .more)
 
 -- after an accepted frame, with the history before it, and what the block was last written under before it
-abbrev pub writtenAfter : Namespace → ℕ → Frame → List Event → Held → Held
-writtenAfter ns block (manage n tags) older before = cond (sameNamespace ns n) nothing before
-writtenAfter ns block (release n) older before = before
-writtenAfter ns block (load n t x) older before = before
-writtenAfter ns block (replace n t old x) older before = before
-writtenAfter ns block (clearOne n t) older before = before
-writtenAfter ns block (clearAll n) older before = before
-writtenAfter ns block (io c) older before = cond (isWrite c && sameNamespace ns (c .ns) && covers c block) (holds ns (c .tag) older) before
-writtenAfter ns block (setFeatures dword11) older before = before
-writtenAfter ns block getFeatures older before = before
-writtenAfter ns block (bootWrite partition) older before = before
-writtenAfter ns block (reset level) older before = before
-writtenAfter ns block discovery older before = before
-writtenAfter ns block unknown older before = before
+abbrev pub writtenAfter : List ℕ → Namespace → ℕ → Frame → List Event → Held → Held
+writtenAfter kek ns block (manage n tags) older before = cond (sameNamespace ns n) nothing before
+writtenAfter kek ns block (release n) older before = before
+writtenAfter kek ns block (load n t x) older before = before
+writtenAfter kek ns block (loadWrapped n t x) older before = before
+writtenAfter kek ns block (replace n t old x) older before = before
+writtenAfter kek ns block (clearOne n t) older before = before
+writtenAfter kek ns block (clearAll n) older before = before
+writtenAfter kek ns block (io c) older before = cond (isWrite c && sameNamespace ns (c .ns) && covers c block) (holds kek ns (c .tag) older) before
+writtenAfter kek ns block (setFeatures dword11) older before = before
+writtenAfter kek ns block getFeatures older before = before
+writtenAfter kek ns block (bootWrite partition) older before = before
+writtenAfter kek ns block (reset level) older before = before
+writtenAfter kek ns block discovery older before = before
+writtenAfter kek ns block unknown older before = before
 
-unfoldable pub lastWritten : Namespace → ℕ → List Event → Held
-lastWritten ns block [] = nothing
-lastWritten ns block (e ∷ older) =
+unfoldable pub lastWritten : List ℕ → Namespace → ℕ → List Event → Held
+lastWritten kek ns block [] = nothing
+lastWritten kek ns block (e ∷ older) =
     cond (accepted (e .answer))
-    (writtenAfter ns block (frameIn e) older (lastWritten ns block older))
-    (lastWritten ns block older)
+    (writtenAfter kek ns block (frameIn e) older (lastWritten kek ns block older))
+    (lastWritten kek ns block older)
 
 -- ------------------------------------------------------------------------
 -- A namespace's count: that of its last accepted manage not since released
@@ -110,6 +114,7 @@ abbrev pub countAfter : Namespace → Frame → ℕ → ℕ
 countAfter ns (manage n tags) before = cond (sameNamespace ns n) tags before
 countAfter ns (release n) before = cond (sameNamespace ns n) 0 before
 countAfter ns (load n t x) before = before
+countAfter ns (loadWrapped n t x) before = before
 countAfter ns (replace n t old x) before = before
 countAfter ns (clearOne n t) before = before
 countAfter ns (clearAll n) before = before

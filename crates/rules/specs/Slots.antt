@@ -11,7 +11,7 @@ use Rattle.cells.specs.Cells.{part, cell, zeros}
 use Rattle.cells.specs.Predicates.{same, someCell}
 use Rattle.rules.specs.declared.Namespace.{Namespace}
 use Rattle.rules.specs.declared.Tag.{Tag}
-use Rattle.rules.specs.Numbers.{tagsMost, uidMost, keySize, slotWidth, slotPlaces}
+use Rattle.rules.specs.Numbers.{tagsMost, uidMost, keySize, wrappedSize, slotWidth, slotPlaces}
 use Rattle.rules.specs.State.{State, namespace, keyTag, IsNamespace}
 
 -- the place of a namespace and a tag, and which two a place has
@@ -43,6 +43,12 @@ pub record FitKey (x : Contents) : Type 0 where
   pub some : 1 ≤ length (x .uid)
   pub short : length (x .uid) ≤ uidMost
   pub whole : length (x .key) ≡ keySize
+
+-- The same before the key is unwrapped: 40 bytes.
+pub record FitWrapped (x : Contents) : Type 0 where
+  pub some : 1 ≤ length (x .uid)
+  pub short : length (x .uid) ≤ uidMost
+  pub whole : length (x .key) ≡ wrappedSize
 
 -- ------------------------------------------------------------------------
 -- A slot's bytes: the KeyUID's length, 0 for an empty slot; the KeyUID, padded

@@ -4,7 +4,7 @@ use mathlib.Core.Path.{_≡_}
 use mathlib.Core.Bool.{Bool, not, _||_}
 use mathlib.Core.List.{List, [], _∷_}
 use Prim.Native.Nat.{ℕ, _+_, _-_, _≤_}
-use lib.ListN.{length, getD}
+use lib.ListN.{length, getD, drop}
 use lib.Dec.{eqb, leb, ltb}
 use Rattle.rules.specs.declared.Namespace.{Namespace}
 use Rattle.rules.specs.declared.Tag.{Tag}
@@ -12,10 +12,10 @@ use Rattle.rules.specs.declared.Registers.{Registers}
 use Rattle.rules.specs.declared.Refusal.{Refusal}
 use Rattle.rules.specs.declared.Answer.{Answer}
 use Rattle.rules.specs.declared.Answer.the-variants.{Refused}
-use Rattle.rules.specs.Numbers.{namespaces, cacheSize, storeSize}
+use Rattle.rules.specs.Numbers.{namespaces, slotsSize, cacheSize, storeSize}
 use Rattle.rules.specs.Checks.{Check, judged}
 
--- the tag counts and boot locks, the key cache, the mark store
+-- the tag counts and boot locks; the key cache, that is the slots and the key-encryption key behind them; the mark store
 pub record State : Type 0 where
   pub registers : Registers
   pub keys : List ℕ
@@ -26,6 +26,10 @@ pub record Sized (s : State) : Type 0 where
   pub counts : length (s .registers .counts) ≡ namespaces
   pub cache : length (s .keys) ≡ cacheSize
   pub store : length (s .marks) ≡ storeSize
+
+-- given at the start; no frame changes it
+abbrev pub keyEncryptionKey : State → List ℕ
+keyEncryptionKey s = drop slotsSize (s .keys)
 
 abbrev pub wrongCache : List ℕ → Bool
 wrongCache keys = not (eqb (length keys) cacheSize)

@@ -13,6 +13,9 @@ pub const UID_MOST: usize = 16;
 
 pub const KEY_SIZE: usize = 32;
 
+// A wrapped key.
+pub const WRAPPED_SIZE: usize = 8 + KEY_SIZE;
+
 pub const SLOT_WIDTH: usize = 1 + UID_MOST + KEY_SIZE;
 
 pub const MARK_WIDTH: usize = 1 + UID_MOST;
@@ -20,7 +23,12 @@ pub const MARK_WIDTH: usize = 1 + UID_MOST;
 pub const SLOT_PLACES: usize = NAMESPACES * TAGS_MOST;
 
 // The key cache: a slot for each tag that a namespace may hold.
-pub const CACHE_SIZE: usize = SLOT_PLACES * SLOT_WIDTH;
+pub const SLOTS_SIZE: usize = SLOT_PLACES * SLOT_WIDTH;
+
+// The key-encryption key lies behind the slots.
+pub const KEK_SIZE: usize = KEY_SIZE;
+
+pub const CACHE_SIZE: usize = SLOTS_SIZE + KEK_SIZE;
 
 pub const MARK_PLACES: usize = NAMESPACES * BLOCKS_EACH;
 
@@ -117,6 +125,7 @@ pub enum Refusal {
     WrongStore,
     UnsoundState,
     OutputTooShort,
+    IntegrityFailed,
     NotAResponse,
     InvalidMessage,
     InvalidMessageKeyUid,

@@ -12,13 +12,13 @@ use native.Mathlib.Omega.{arith}
 use lib.ListN.{length, getD, take, drop, set, length-set, length-append, length-drop, drop-of-length-le}
 use lib.Dec.{eqb}
 use lib.Seq.{set-split}
-use borrow.Author.Tests.{eq-eqb, ne-eqb, lt-ltb, le-leb}
+use borrow.Author.Tests.{eq-eqb, ne-eqb, lt-ltb, le-ltb, le-leb}
 use Rattle.cells.specs.Cells.{part, cell, zeros, put, fill}
 use Rattle.cells.specs.Predicates.{same}
-use Rattle.cells.proofs.CellsLaws.{length-cell, first-cell, part-end, part-cell, part-whole, cell-past, lent-length-to, copied, push, fill-all}
+use Rattle.cells.proofs.CellsLaws.{length-cell, first-cell, part-end, part-cell, part-whole, lent-length-to, copied, push, fill-front}
 use Rattle.cells.proofs.PredicatesLaws.{same-split, same-byte}
 use Rattle.rules.specs.declared.Namespace.{Namespace}
-use Rattle.rules.specs.Numbers.{uidMost, keySize, slotWidth, slotPlaces, cacheSize}
+use Rattle.rules.specs.Numbers.{uidMost, keySize, slotWidth, slotPlaces, slotsSize, cacheSize}
 use Rattle.rules.specs.State.{wrongCache, keyTag, noNamespace}
 use Rattle.rules.specs.Slots.{Contents, FitKey, placeOf, padded, slotBytes, emptied, uidLength, loaded, uidOf, keyOf}
 use Rattle.rules.specs.Sound.{afterUid}
@@ -35,12 +35,13 @@ pub right-cache : (keys : List ℕ) → length keys ≡ cacheSize → wrongCache
 right-cache keys size = ap not (eq-eqb (length keys) cacheSize size)
 
 module _ (keys : List ℕ) (size : length keys ≡ cacheSize) where
-  pub slot-is : (place : ℕ) → slotAt place keys ≡ cell slotWidth place keys
+  pub slot-is : (place : ℕ) → place < slotPlaces → slotAt place keys ≡ cell slotWidth place keys
   unfolding slotAt
-  slot-is place = rw (right-cache keys size)
+  slot-is place h = rw (right-cache keys size, lt-ltb place slotPlaces h)
 
   pub slot-past : (place : ℕ) → slotPlaces ≤ place → slotAt place keys ≡ []
-  slot-past place h = slot-is place ∙ cell-past slotWidth place keys (omega arith)
+  unfolding slotAt
+  slot-past place h = rw (right-cache keys size, le-ltb place slotPlaces h)
 
   -- `store` itself takes an empty KeyUID
   pub stored-short : (place : ℕ) (x : Contents) → place < slotPlaces → length (x .uid) ≤ uidMost → length (x .key) ≡ keySize
@@ -65,11 +66,11 @@ module _ (keys : List ℕ) (size : length keys ≡ cacheSize) where
   unfolding clearedAll
   cleared-all-is = rw (right-cache keys size)
 
-pub cleared-all-zeros : (keys : List ℕ) → clearedAll keys ≡ cond (wrongCache keys) keys (zeros cacheSize)
+pub cleared-all-zeros : (keys : List ℕ) → clearedAll keys ≡ cond (wrongCache keys) keys (zeros slotsSize ++ drop slotsSize keys)
 unfolding clearedAll
 cleared-all-zeros keys =
     by-cases (ℕ-discrete (length keys) cacheSize)
-    (λ size. rw (right-cache keys size) (fill-all slotWidth slotPlaces keys size))
+    (λ size. rw (right-cache keys size) (fill-front slotWidth slotPlaces keys))
     (λ wrong. rw (wrong-cache keys wrong))
 
 -- ------------------------------------------------------------------------
@@ -79,13 +80,13 @@ module _ (keys : List ℕ) (place : ℕ) (size : length keys ≡ cacheSize) wher
   pub length-at : uidLength (cell slotWidth place keys) ≡ getD keys (place * slotWidth) 0
   length-at = first-cell slotWidth place keys (omega arith)
 
-  pub loaded-not : getD keys (place * slotWidth) 0 ≡ 0 → loaded (slotAt place keys) ≡ false
-  loaded-not e = rw (slot-is keys size place, length-at, e)
-
-  pub loaded-is : (getD keys (place * slotWidth) 0 ≡ 0 → ⊥) → loaded (slotAt place keys) ≡ true
-  loaded-is n = rw (slot-is keys size place, length-at, ne-eqb _ 0 n)
-
   module _ (inside : place < slotPlaces) where
+    pub loaded-not : getD keys (place * slotWidth) 0 ≡ 0 → loaded (slotAt place keys) ≡ false
+    loaded-not e = rw (slot-is keys size place inside, length-at, e)
+
+    pub loaded-is : (getD keys (place * slotWidth) 0 ≡ 0 → ⊥) → loaded (slotAt place keys) ≡ true
+    loaded-is n = rw (slot-is keys size place inside, length-at, ne-eqb _ 0 n)
+
     fits : place * slotWidth + slotWidth ≤ length keys
     fits = omega arith
 

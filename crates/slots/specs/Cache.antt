@@ -16,7 +16,7 @@ use Rattle.rules.specs.Slots.{Contents, placeOf, padded, slotBytes, emptied, ke
 
 -- the slot at a place; no bytes past the last
 unfoldable pub slotAt : ℕ → List ℕ → List ℕ
-slotAt place keys = cond (wrongCache keys) [] (cell slotWidth place keys)
+slotAt place keys = cond (not (wrongCache keys) && ltb place slotPlaces) (cell slotWidth place keys) []
 
 abbrev pub fitsSlot : ℕ → Contents → List ℕ → Bool
 fitsSlot place x keys = not (wrongCache keys) && ltb place slotPlaces && leb (length (x .uid)) uidMost && eqb (length (x .key)) keySize

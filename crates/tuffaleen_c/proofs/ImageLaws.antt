@@ -190,13 +190,13 @@ abbrev Left : List ℕ → Bool → ℕ → State → List ℕ → Type 0
 Left image none at s left = (length (s .keys) ≡ length (lentFrom at image)) × (left ≡ savedOver none (s .registers) (backFrom at image (s .keys)))
 
 module _ {at : ℕ} (image marks : List ℕ) where
-  pub c-started : {o : Outcome} {n : ℕ} {left : List ℕ} → at ≡ keysAt (wrongLength image) image → o ≡ start (lentFrom at image) marks
+  pub c-started : (kek : List ℕ) {o : Outcome} {n : ℕ} {left : List ℕ} → at ≡ keysAt (wrongLength image) image → o ≡ start kek (lentFrom at image) marks
       → Left image (wrongLength image) at (o .state) left → n ≡ number (o .answer)
-      → _≡_ {A = CStarted} (record { number = n; image = left; marks = o .state .marks }) (cStart image marks)
+      → _≡_ {A = CStarted} (record { number = n; image = left; marks = o .state .marks }) (cStart kek image marks)
   unfolding cStart
-  c-started {o} place done l m =
+  c-started kek {o} place done l m =
       let lends = start-lends image place in
-      rw (m, l .1 ∙ back-saved lends (o .state) (l .0), done ∙ ap (λ k. start k marks) (lent-keys lends))
+      rw (m, l .1 ∙ back-saved lends (o .state) (l .0), done ∙ ap (λ k. start kek k marks) (lent-keys lends))
 
   module _ {none : Bool} {registers : Registers} (is : none ≡ noImage image)
       (place : at ≡ keysAt none image) (were : registers ≡ registersIn none image) where

@@ -132,21 +132,21 @@ session-refused-keeps-image image marks text out r e =
 -- ------------------------------------------------------------------------
 -- A start, and an image that is none
 
-no-cache-keeps : (marks : List ℕ) → start [] marks .state .marks ≡ marks
+no-cache-keeps : (kek marks : List ℕ) → start kek [] marks .state .marks ≡ marks
 unfolding start
-no-cache-keeps marks = by (wrongStore marks) refl
+no-cache-keeps kek marks = by (wrongStore marks) refl
   where
-    by : (b : Bool) → wrongStore marks ≡ b → start [] marks .state .marks ≡ marks
+    by : (b : Bool) → wrongStore marks ≡ b → start kek [] marks .state .marks ≡ marks
     by true p = rw p
     by false p = rw p
 
 pub start-keeps : StartKeeps
 unfolding cStart
-start-keeps image marks e = (rw e, ap (λ b. start (keysIn b image) marks .state .marks) e ∙ no-cache-keeps marks)
+start-keeps kek image marks e = (rw e, ap (λ b. start kek (keysIn b image) marks .state .marks) e ∙ no-cache-keeps kek marks)
 
 pub start-fresh : StartFresh
 unfolding cStart start
-start-fresh image marks e w =
+start-fresh kek image marks e w =
     let size = right-length image e in
     let full : length (drop registersSize image) ≡ cacheSize = simp length-drop (omega arith) in
     (rw (e, w, eq-eqb (length (drop registersSize image)) cacheSize full), rw (w, cStart))

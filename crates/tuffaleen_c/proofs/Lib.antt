@@ -1,3 +1,4 @@
 pub mod HostLaws
 pub mod ImageLaws
 pub mod ImagePromised
+pub mod CourierLaws

@@ -1,5 +1,6 @@
 -- The whole state but the marks as one byte image, for callers in C: the tag
--- counts, the two boot locks, the key cache. And what a call leaves of it.
+-- counts, the two boot locks, the key cache with the key-encryption key at its end.
+-- And what a call leaves of it.
 -- Assumes nothing.
 use mathlib.Core.Bool.{Bool, not, _||_, cond}
 use mathlib.Core.List.{List, [], _∷_, _++_}
@@ -89,10 +90,10 @@ pub record CStarted : Type 0 where
   pub marks : List ℕ
 
 -- a fresh drive, in an image of the right length, whatever it held; another has no cache, and stays
-unfoldable pub cStart : List ℕ → List ℕ → CStarted
-cStart image marks =
+unfoldable pub cStart : List ℕ → List ℕ → List ℕ → CStarted
+cStart kek image marks =
     let none = wrongLength image in
-    let o = start (keysIn none image) marks in
+    let o = start kek (keysIn none image) marks in
     record { number = number (o .answer); image = saved none image (o .state); marks = o .state .marks }
 
 pub record CCalled : Type 0 where

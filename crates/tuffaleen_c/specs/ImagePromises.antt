@@ -6,12 +6,10 @@ use mathlib.Core.Bool.{true, false}
 use mathlib.Core.List.{List}
 use Prim.Native.Nat.{ℕ}
 use Rattle.rules.specs.declared.Refusal.{Refusal}
-use Rattle.cells.specs.Cells.{zeros}
-use Rattle.rules.specs.Numbers.{cacheSize}
 use Rattle.rules.specs.Answers.{refusalNumber}
 use Rattle.rules.specs.State.{State, Sized, wrongStore}
 use Rattle.rules.specs.Sound.{unsound}
-use Rattle.rules.specs.Start.{freshWith}
+use Rattle.rules.specs.Start.{freshWith, freshCache}
 use Rattle.tuffaleen_c.specs.Image.{wrongLength, noImage, stateIn, imageOf, cStart, cCall, cSession}
 
 -- Another length, or a lock byte outside the three states, is an unsound state.
@@ -28,12 +26,12 @@ SameState = (s : State) → Sized s → (noImage (imageOf s) ≡ false) × (stat
 
 -- A start on an image of another length changes nothing; a start with a wrong store leaves the fresh image and the store as it was.
 abbrev pub StartKeeps : Type 0
-StartKeeps = (image marks : List ℕ) → wrongLength image ≡ true → (cStart image marks .image ≡ image) × (cStart image marks .marks ≡ marks)
+StartKeeps = (kek image marks : List ℕ) → wrongLength image ≡ true → (cStart kek image marks .image ≡ image) × (cStart kek image marks .marks ≡ marks)
 
 abbrev pub StartFresh : Type 0
 StartFresh =
-    (image marks : List ℕ) → wrongLength image ≡ false → wrongStore marks ≡ true
-    → (cStart image marks .image ≡ imageOf (freshWith (zeros cacheSize) marks)) × (cStart image marks .marks ≡ marks)
+    (kek image marks : List ℕ) → wrongLength image ≡ false → wrongStore marks ≡ true
+    → (cStart kek image marks .image ≡ imageOf (freshWith (freshCache kek) marks)) × (cStart kek image marks .marks ≡ marks)
 
 -- Every refusal leaves the image and the marks as they were.
 abbrev pub LineRefusedKeepsImage : Type 0

@@ -2,3 +2,4 @@ pub mod Image
 pub mod Host
 pub mod ImagePromises
 pub mod Office
+pub mod Courier

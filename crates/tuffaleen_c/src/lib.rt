@@ -2,23 +2,30 @@
 ghost use mathlib.Core.Path.{_≡_};
 ghost use Rattle.tuffaleen_c.specs.Image.{cStart, cCall, cSession};
 ghost use Rattle.tuffaleen_c.specs.Host.{cDiscovery};
+ghost use lib.ListN.{drop};
+ghost use Rattle.rules.specs.KeyWrap.{wrap as wrapped};
 ghost use Rattle.tuffaleen_c.specs.Office.{cMessage};
+ghost use Rattle.tuffaleen_c.specs.Courier.{cUnwrap};
 
 mod host;
 mod image;
 mod office;
 
+use aes::SCHEDULE;
 use rules::Answer;
+use rules::KEK_SIZE;
 use rules::Refusal;
+use rules::WRAPPED_SIZE;
 
-// A fresh drive, in an image of the right length.
+// A fresh drive with this key-encryption key, in an image of the right length.
 #[no_mangle]
-pub extern "C" fn tuffaleen_start(image: &mut [u8], marks: &mut [u8]) -> u16
-    ensures { λ r. ⌜ record { number = r; image = now (image .exit); marks = now (marks .exit) } ≡ cStart (now (image .entry)) (now (marks .entry)) ⌝ }
+pub extern "C" fn tuffaleen_start(image: &mut [u8], marks: &mut [u8], kek: &[u8; KEK_SIZE]) -> u16
+    ensures { λ r. ⌜ record { number = r; image = now (image .exit); marks = now (marks .exit) }
+        ≡ cStart (now (kek .entry)) (now (image .entry)) (now (marks .entry)) ⌝ }
 {
     let none = image.len() != image::IMAGE_SIZE;
     let at = image::keys_at(image, none);
-    let started = drive::start(&mut image[at..], marks);
+    let started = drive::start(kek, &mut image[at..], marks);
     let answer = started.answer;
     let registers = started.registers;
     image::save(image, none, registers);
@@ -116,4 +123,25 @@ pub extern "C" fn tuffaleen_message(
     let told = kmip::write(namespace, tag, uid, key, out);
     *written = office::bytes(told);
     digits::number(office::answer(told))
+}
+
+// For the office that fills a courier's case: the key in the last 32 bytes, wrapped.
+#[no_mangle]
+pub extern "C" fn tuffaleen_wrap(kek: &[u8; KEK_SIZE], bytes: &mut [u8; WRAPPED_SIZE])
+    ensures { λ _. ⌜ now (bytes .exit) ≡ wrapped (now (kek .entry)) (drop 8 (now (bytes .entry))) ⌝ }
+{
+    let mut words = [0u32; SCHEDULE];
+    wrap::wrap(kek, bytes, &mut words);
+}
+
+// And for whoever opens it.
+#[no_mangle]
+pub extern "C" fn tuffaleen_unwrap(kek: &[u8; KEK_SIZE], bytes: &mut [u8; WRAPPED_SIZE]) -> u16
+    ensures { λ r. ⌜ record { number = r; bytes = now (bytes .exit) } ≡ cUnwrap (now (kek .entry)) (now (bytes .entry)) ⌝ }
+{
+    let mut words = [0u32; SCHEDULE];
+    if wrap::unwrap(kek, bytes, &mut words) {
+        return digits::number(Answer::Done);
+    }
+    digits::number(Answer::Refused(Refusal::IntegrityFailed))
 }

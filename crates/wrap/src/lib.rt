@@ -9,15 +9,13 @@ ghost use Rattle.rules.specs.Aes.{keyExpansion};
 ghost use Rattle.rules.specs.KeyWrap.{wrapSteps, unwrapSteps, initialValue};
 ghost use Rattle.wrap.specs.Wrapping.{wrappedIn, Opening, openedIn};
 use aes::SCHEDULE;
+use rules::KEY_SIZE;
+use rules::WRAPPED_SIZE;
 
 mod steps;
 
-// Bytes of a key-encryption key, of a wrapped key, and of the integrity value before the key.
-const KEY_SIZE: usize = 32;
-
-pub const WRAPPED_SIZE: usize = 40;
-
-const VALUE_SIZE: usize = 8;
+// Bytes of the integrity value, before the key.
+pub const VALUE_SIZE: usize = 8;
 
 const INITIAL_VALUE: [u8; VALUE_SIZE] = *b"\xA6\xA6\xA6\xA6\xA6\xA6\xA6\xA6";
 

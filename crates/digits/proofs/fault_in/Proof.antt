@@ -21,7 +21,7 @@ fault-in-spec =
     (λ c. search needs) (λ c. search needs) (λ c. search needs) (λ c κs. search needs) (λ c. search needs) (λ c. search needs)
     (λ c. search needs) (λ c. search needs) (λ c. search needs) (λ c. search needs) (λ c. search needs) (λ c. search needs)
     (λ c. search needs) (λ c. search needs) (λ c. search needs) (λ c. search needs) (λ c. search needs) (λ c. search needs)
-    (λ c. search needs) (λ c. search needs) (λ c. search needs) (λ c. rw (c .enum-told .given .1)) (λ c. rw (c .enum-told2 .given .1))
+    (λ c. search needs) (λ c. search needs) (λ c. search needs) (λ c. search needs) (λ c. rw (c .enum-told .given .1)) (λ c. rw (c .enum-told2 .given .1))
     (λ c. rw (c .enum-told3 .given .1)) (λ c. rw (c .enum-told4 .given .1)) (λ c. rw (c .enum-told5 .given .1))
     (λ c. rw (c .enum-told6 .given .1)) (λ c. rw (c .enum-told7 .given .1)) (λ c. rw (c .enum-told8 .given .1)) told
     (λ c. rw (c .enum-told9 .given .1)) (λ c. rw (c .enum-told10 .given .1)) (λ c. rw (c .enum-told11 .given .1))
@@ -29,4 +29,4 @@ fault-in-spec =
     (λ c. rw (c .enum-told15 .given .1)) (λ c. rw (c .enum-told16 .given .1)) (λ c. rw (c .enum-told17 .given .1))
     (λ c. rw (c .enum-told18 .given .1)) (λ c. rw (c .enum-told19 .given .1)) (λ c. rw (c .enum-told20 .given .1))
     (λ c. rw (c .enum-told21 .given .1)) (λ c. rw (c .enum-told22 .given .1)) (λ c. rw (c .enum-told23 .given .1))
-    (λ c. rw (c .enum-told24 .given .1)) (λ c. rw (c .enum-told25 .given .1)))
+    (λ c. rw (c .enum-told24 .given .1)) (λ c. rw (c .enum-told25 .given .1)) (λ c. rw (c .enum-told26 .given .1)))

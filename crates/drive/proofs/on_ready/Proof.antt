@@ -13,7 +13,7 @@ on-line-requires : tie.Need-on-line-requires
 unfolding zeros
 on-line-requires c κs =
     let s : tie.Start = search in
-    (s .pre .0, refl)
+    (s .pre .0, refl, refl)
 
 returns : tie.Need-returns
 returns c =

@@ -22,14 +22,19 @@ returns-3 : tie.Need-returns-3
 returns-3 c =
     let s : tie.Start = search in
     let e : tie.Else1 = search in
-    rw (loaded-not (s .args .keys .now) (s .args .place) (e .if1 .left) (c .if3 .taken))
+    let g : tie.Else2 = search in
+    rw (loaded-not (s .args .keys .now) (s .args .place) (e .if1 .left) (g .if2 .left) (c .if3 .taken))
 
 returns-4 : tie.Need-returns-4
 returns-4 c =
     let s : tie.Start = search in
     let e : tie.Else1 = search in
     let f : tie.Else3 = search in
-    rw (loaded-is (s .args .keys .now) (s .args .place) (e .if1 .left) (f .if3 .left), slot-is (s .args .keys .now) (e .if1 .left) (s .args .place))
+    let g : tie.Else2 = search in
+    rw (
+      loaded-is (s .args .keys .now) (s .args .place) (e .if1 .left) (g .if2 .left) (f .if3 .left),
+      slot-is (s .args .keys .now) (e .if1 .left) (s .args .place) (g .if2 .left),
+    )
     (c .same-uid .ensures)
 
 pub holds-uid-spec : {M : Type 1} → statement M

@@ -22,7 +22,8 @@ returns-3 : tie.Need-returns-3
 returns-3 c =
     let s : tie.Start = search in
     let e : tie.Else1 = search in
-    rw (slot-is (s .args .keys .now) (e .if1 .left) (s .args .place), length-at (s .args .keys .now) (s .args .place) (e .if1 .left))
+    let g : tie.Else2 = search in
+    rw (slot-is (s .args .keys .now) (e .if1 .left) (s .args .place) (g .if2 .left), length-at (s .args .keys .now) (s .args .place) (e .if1 .left))
 
 pub loaded-spec : {M : Type 1} → statement M
 loaded-spec = tie.close (tie.spec returns returns-2 (λ c. search needs) (λ c. search needs) returns-3)

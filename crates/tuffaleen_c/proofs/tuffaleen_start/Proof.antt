@@ -22,7 +22,7 @@ save-requires c κs =
     let r : tie.After-start = search in
     let k : tie.After-keys-at = search in
     let s : tie.Start = search in
-    back-size (start-lends (s .args .image .now) (k .keys-at .ensures)) (r .start .last .0) (r .start .kept .0)
+    back-size (start-lends (s .args .image .now) (k .keys-at .ensures)) (r .start .last .1 .0) (r .start .kept .1 .0)
 
 returns : tie.Need-returns
 returns c =
@@ -31,7 +31,7 @@ returns c =
     let k : tie.After-keys-at = search in
     let s : tie.Start = search in
     let a = s .args in
-    c-started (a .image .now) (a .marks .now) (k .keys-at .ensures) (r .start .ensures) (r .start .kept .0, v .save .ensures) (c .number .ensures)
+    c-started (a .image .now) (a .marks .now) (a .kek .now) (k .keys-at .ensures) (r .start .ensures) (r .start .kept .1 .0, v .save .ensures) (c .number .ensures)
 
 pub tuffaleen-start-spec : {M : Type 1} → statement M
 tuffaleen-start-spec =

@@ -3,16 +3,11 @@
 use borrow.Author.Needs.{needs}
 use native.Mathlib.Omega.{arith}
 use mathlib.Core.Path.{sym}
-use Prim.Native.Nat.{ℕ, _+_}
 use lib.Seq.{length-take-le}
-use Rattle.rules.specs.Numbers.{uidMost, keySize}
+use Rattle.drive.specs.Acting.{replaceMost}
 use Rattle.drive.proofs.ActingLaws.{wiped, wiped-all}
 use Rattle.drive.proofs.act.wipe.Statement.{statement}
 use Rattle.drive.proofs.act.wipe.Tie as tie
-
--- the longest frame without a message
-abbrev replaceMost : ℕ
-replaceMost = 6 + uidMost + uidMost + keySize
 
 slice-aggregate : tie.Need-slice-aggregate-fill-zero
 slice-aggregate c =

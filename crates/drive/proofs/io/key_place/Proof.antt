@@ -10,7 +10,8 @@ use Rattle.rules.specs.Numbers.{slotWidth}
 use Rattle.rules.specs.Slots.{empty, loaded}
 use Rattle.slots.proofs.CacheLaws.{slot-is}
 use Rattle.drive.specs.Acting.{state}
-use Rattle.drive.proofs.IoLaws.{wrong-type, tag-refused, tag-found}
+use Rattle.drive.proofs.ActingLaws.{cache-of}
+use Rattle.drive.proofs.IoLaws.{wrong-type, tag-refused, tag-inside, tag-found}
 use Rattle.drive.proofs.io.key_place.Statement.{statement}
 use Rattle.drive.proofs.io.key_place.Tie as tie
 
@@ -30,7 +31,9 @@ returns-2 c =
     let a = s .args in
     let at = q .at .given .0 .0 in
     let led = tag-found (state (a .registers) (a .keys .now) []) (a .c) (a .n) (s .pre .1 .1) (e .if1 .left) at (sym (q .at .given .1) ∙ p .place .ensures) in
-    let is = l .loaded .ensures ∙ ap loaded (slot-is (a .keys .now) (s .pre .0) at) in
+    let now = state (a .registers) (a .keys .now) [] in
+    let inside = tag-inside now (a .c) (a .n) (s .pre .1 .1) (e .if1 .left) (s .pre .0) (s .pre .1 .0) at (sym (q .at .given .1) ∙ p .place .ensures) in
+    let is = l .loaded .ensures ∙ ap loaded (slot-is (a .keys .now) (cache-of (a .registers) (a .keys .now) (s .pre .0)) at inside) in
     let none : empty (cell slotWidth at (a .keys .now)) ≡ true = not-false _ (sym is ∙ not-true _ (c .if2 .taken)) in
     rw none at led
 
@@ -54,7 +57,9 @@ returns-4 c =
     let a = s .args in
     let at = q .at .given .0 .0 in
     let led = tag-found (state (a .registers) (a .keys .now) []) (a .c) (a .n) (s .pre .1 .1) (e .if1 .left) at (sym (q .at .given .1) ∙ p .place .ensures) in
-    let is = l .loaded .ensures ∙ ap loaded (slot-is (a .keys .now) (s .pre .0) at) in
+    let now = state (a .registers) (a .keys .now) [] in
+    let inside = tag-inside now (a .c) (a .n) (s .pre .1 .1) (e .if1 .left) (s .pre .0) (s .pre .1 .0) at (sym (q .at .given .1) ∙ p .place .ensures) in
+    let is = l .loaded .ensures ∙ ap loaded (slot-is (a .keys .now) (cache-of (a .registers) (a .keys .now) (s .pre .0)) at inside) in
     let some : empty (cell slotWidth at (a .keys .now)) ≡ false = not-true _ (sym is ∙ not-false _ (c .if2 .left)) in
     rw some at led
 

@@ -2,9 +2,15 @@
 -- Assumes nothing.
 use borrow.Author.Needs.{needs}
 use mathlib.Core.Path.{sym, _∙_}
+use Rattle.drive.proofs.ActingLaws.{sound-keys}
 use Rattle.drive.proofs.IoLaws.{known-leads}
 use Rattle.drive.proofs.io.known.Statement.{statement}
 use Rattle.drive.proofs.io.known.Tie as tie
+
+reach-requires : tie.Need-reach-requires
+reach-requires c κs =
+    let s : tie.Start = search in
+    sym (sound-keys (s .args .registers) (s .args .keys .now) (s .args .marks .now)) ∙ s .pre .0 .sound
 
 at-place-requires : tie.Need-at-place-requires
 at-place-requires c κs =
@@ -35,6 +41,6 @@ pub known-spec : {M : Type 1} → statement M
 known-spec =
     tie.close
     (tie.spec
-    (λ c κs. search needs) (λ c. search needs) (λ c κs. search needs) (λ c. search needs) (λ c κs. search needs) (λ c. search needs)
+    reach-requires (λ c. search needs) (λ c κs. search needs) (λ c. search needs) (λ c κs. search needs) (λ c. search needs)
     at-place-requires returns returns-2
     (λ c. search needs) (λ c. search needs))

@@ -21,7 +21,7 @@ returns c =
     let l : tie.After-loaded = search in
     let t : tie.Then1 = search in
     let none : empty (cell slotWidth (a .place) (a .keys .now)) ≡ true =
-    empty-by (a .keys .now) (s .pre .1) (a .place) _ (l .loaded .ensures) (t .if1 .taken) in
+    empty-by (a .keys .now) (s .pre .1) (a .place) (s .pre .0) _ (l .loaded .ensures) (t .if1 .taken) in
     rw (c .refused .ensures, none)
 
 returns-2 : tie.Need-returns-2
@@ -34,7 +34,7 @@ returns-2 c =
     let e : tie.Else1 = search in
     let y : tie.After-clear = search in
     let full : empty (cell slotWidth (a .place) (a .keys .now)) ≡ false =
-    full-by (a .keys .now) (s .pre .1) (a .place) _ (l .loaded .ensures) (e .if1 .left) in
+    full-by (a .keys .now) (s .pre .1) (a .place) (s .pre .0) _ (l .loaded .ensures) (e .if1 .left) in
     let cleared = y .clear .ensures ∙ cleared-is (a .keys .now) (s .pre .1) (a .place) (s .pre .0) in
     rw (c .done .ensures, cleared, full)
 

@@ -24,7 +24,7 @@ returns c =
     let t : tie.Then1 = search in
     let size = cache-of (a .registers) (a .keys .now) (s .pre .2) in
     let none : empty (cell slotWidth (a .place) (a .keys .now)) ≡ true =
-    empty-by (a .keys .now) size (a .place) _ (l .loaded .ensures) (t .if1 .taken) in
+    empty-by (a .keys .now) size (a .place) (s .pre .0) _ (l .loaded .ensures) (t .if1 .taken) in
     rw (c .refused .ensures, none)
 
 returns-2 : tie.Need-returns-2
@@ -39,9 +39,9 @@ returns-2 c =
     let t : tie.Then2 = search in
     let size = cache-of (a .registers) (a .keys .now) (s .pre .2) in
     let full : empty (cell slotWidth (a .place) (a .keys .now)) ≡ false =
-    full-by (a .keys .now) size (a .place) _ (l .loaded .ensures) (e .if1 .left) in
+    full-by (a .keys .now) size (a .place) (s .pre .0) _ (l .loaded .ensures) (e .if1 .left) in
     let holds : same (uidOf (cell slotWidth (a .place) (a .keys .now))) (a .old .now) ≡ false =
-    holds-by (a .keys .now) size (a .place) (a .old .now) _ (u .holds-uid .ensures) full ∙ not-true _ (t .if2 .taken) in
+    holds-by (a .keys .now) size (a .place) (s .pre .0) (a .old .now) _ (u .holds-uid .ensures) full ∙ not-true _ (t .if2 .taken) in
     rw (c .refused2 .ensures, full, holds)
 
 returns-3 : tie.Need-returns-3
@@ -57,9 +57,9 @@ returns-3 c =
     let p : tie.After-put = search in
     let size = cache-of (a .registers) (a .keys .now) (s .pre .2) in
     let full : empty (cell slotWidth (a .place) (a .keys .now)) ≡ false =
-    full-by (a .keys .now) size (a .place) _ (l .loaded .ensures) (e .if1 .left) in
+    full-by (a .keys .now) size (a .place) (s .pre .0) _ (l .loaded .ensures) (e .if1 .left) in
     let holds : same (uidOf (cell slotWidth (a .place) (a .keys .now))) (a .old .now) ≡ true =
-    holds-by (a .keys .now) size (a .place) (a .old .now) _ (u .holds-uid .ensures) full ∙ not-false _ (g .if2 .left) in
+    holds-by (a .keys .now) size (a .place) (s .pre .0) (a .old .now) _ (u .holds-uid .ensures) full ∙ not-false _ (g .if2 .left) in
     rw (full, holds) (p .put .ensures marks)
 
 pub replace-at-spec : {M : Type 1} → statement M

@@ -14,19 +14,19 @@ use Rattle.drive.proofs.running.run.Statement.{statement}
 use Rattle.drive.proofs.running.run.Tie as tie
 
 abbrev Inv-loop : tie.InvT-loop
-Inv-loop keys₀ marks₀ text out₀ frame₀ brought₀ registers₀ at₀ lines₀ bytes₀ keys marks out frame brought registers at lines bytes =
+Inv-loop keys₀ marks₀ text out₀ frame₀ brought₀ words₀ registers₀ at₀ lines₀ bytes₀ keys marks out frame brought words registers at lines bytes =
     Mid (state registers₀ keys₀ marks₀) text out₀ (state registers keys marks) at lines bytes out × Ready registers keys marks
-    × (frame ≡ zeros (digitsMost / 2))
+    × (frame ≡ zeros (digitsMost / 2)) × (words ≡ zeros 60)
 
 abbrev μ-loop : tie.MeasureT-loop
-μ-loop keys₀ marks₀ text out₀ frame₀ brought₀ registers₀ at₀ lines₀ bytes₀ keys marks out frame brought registers at lines bytes =
+μ-loop keys₀ marks₀ text out₀ frame₀ brought₀ words₀ registers₀ at₀ lines₀ bytes₀ keys marks out frame brought words registers at lines bytes =
     length text - at
 
 loop-holds : tie.Need-loop-holds Inv-loop μ-loop
 unfolding zeros
 loop-holds c =
     let s : tie.Start Inv-loop μ-loop = search in
-    (mid-none _ _ _ (s .pre .1), s .pre .0, refl)
+    (mid-none _ _ _ (s .pre .1), s .pre .0, refl, refl)
 
 sub-on-line : tie.Need-sub-on-line Inv-loop μ-loop
 sub-on-line c =
@@ -46,7 +46,7 @@ part-on-line-end c =
 on-line-requires : tie.Need-on-line-requires Inv-loop μ-loop
 on-line-requires c κs =
     let l : tie.At-loop Inv-loop μ-loop = search in
-    (l .loop .inv .1, l .loop .inv .2)
+    (l .loop .inv .1, l .loop .inv .2, l .loop .inv .3)
 
 sub-write-answer : tie.Need-sub-write-answer Inv-loop μ-loop
 sub-write-answer c =
@@ -115,6 +115,7 @@ loop-again c =
           (mid-more first (a .text .now) (a .out .now) here (i .at) (i .lines) (i .bytes) (i .out) (i .inv .0) _ _ line _ (o .on-line .ensures .0)),
       ready-next (i .registers) (i .keys) (i .marks) _ (o .on-line .result) _ _ (i .inv .1) (o .on-line .ensures .0),
       o .on-line .ensures .1,
+      o .on-line .ensures .3,
     )
 
 same-length : tie.Need-same-length Inv-loop μ-loop

@@ -81,14 +81,25 @@ returns-12 c =
     rw (k .match .keys12) (c .discovery .ensures)
 
 returns-13 : tie.Need-returns-13
-unfolding readFrame kinds numbered
-returns-13 c = rw (c .match .keys13)
+returns-13 c =
+    let s : tie.Start = search in
+    absurd (s .pre .1 (c .match .keys13))
 
 returns-14 : tie.Need-returns-14
-unfolding readFrame numbered
+unfolding readFrame kinds
 returns-14 c =
+    let k : tie.At-match-keys14 = search in
+    rw (k .match .keys14) (c .load-wrapped .ensures)
+
+returns-15 : tie.Need-returns-15
+unfolding readFrame kinds numbered
+returns-15 c = rw (c .match .keys15)
+
+returns-16 : tie.Need-returns-16
+unfolding readFrame numbered
+returns-16 c =
     let s : tie.Start = search in
-    rw (no-kind (s .args .f .now) (byte 0 (s .args .f .now)) (c .match .rest .0, s .pre .1) (c .match .rest .1))
+    rw (no-kind (s .args .f .now) (byte 0 (s .args .f .now)) (c .match .rest .0) (c .match .rest .1))
 
 pub by-kind-spec : {M : Type 1} → statement M
 by-kind-spec =
@@ -96,5 +107,5 @@ by-kind-spec =
     (tie.spec
     (λ c. search needs) (λ c κs. search needs) (λ c κs. search needs) (λ c κs. search needs) (λ c κs. search needs) (λ c κs. search needs)
     (λ c κs. search needs) (λ c κs. search needs) (λ c κs. search needs) (λ c κs. search needs) (λ c κs. search needs) (λ c κs. search needs)
-    (λ c κs. search needs) returns returns-2 returns-3 returns-4 returns-5 returns-6 returns-7 returns-8 returns-9 returns-10 returns-11 returns-12 returns-13
-    returns-14)
+    (λ c κs. search needs) (λ c κs. search needs) returns returns-2 returns-3 returns-4 returns-5 returns-6 returns-7 returns-8 returns-9 returns-10 returns-11 returns-12 returns-13
+    returns-14 returns-15 returns-16)
