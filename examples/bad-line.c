@@ -6,6 +6,9 @@
 
 static uint8_t image[TUFFALEEN_IMAGE_BYTES], marks[TUFFALEEN_MARKS_BYTES], out[TUFFALEEN_ANSWER_BYTES];
 
+/* Opens wrapped keys. None comes here, so any will do. */
+static const uint8_t kek[TUFFALEEN_KEK_BYTES];
+
 /* What was typed, and what the drive must say of it. Two tags for namespace 1 are meant. */
 static const struct { const char *line; int reason, place; } typed[] = {
     {"O10102", TUFFALEEN_LINE_BAD_DIGIT, 0},
@@ -53,7 +56,7 @@ static int differs(const char *line, int awaited_reason, int awaited_place)
 
 int main(void)
 {
-    int different = tuffaleen_start(image, sizeof image, marks, sizeof marks) != TUFFALEEN_DONE;
+    int different = tuffaleen_start(image, sizeof image, marks, sizeof marks, kek) != TUFFALEEN_DONE;
     for (size_t i = 0; i < sizeof typed / sizeof *typed; i++)
         different |= differs(typed[i].line, typed[i].reason, typed[i].place);
     if (different)

@@ -10,6 +10,9 @@
 static uint8_t image[TUFFALEEN_IMAGE_BYTES], marks[TUFFALEEN_MARKS_BYTES], response[RESPONSE_BYTES];
 static uint32_t fields[TUFFALEEN_DISCOVERY_FIELDS];
 
+/* Opens wrapped keys. None comes here, so any will do. */
+static const uint8_t kek[TUFFALEEN_KEK_BYTES];
+
 /* What a host may want to know, and what our drive tells. */
 struct known { const char *what; int place; uint32_t awaited; };
 
@@ -17,6 +20,7 @@ static const struct known numbers[] = {
     {"bytes in a KeyUID, at most (0: any)", TUFFALEEN_MAXIMUM_KEY_UID_LENGTH, 16},
     {"key tags in all", TUFFALEEN_TOTAL_NUMBER_OF_KEY_TAGS, 256},
     {"key tags in a namespace, at most", TUFFALEEN_MAXIMUM_KEY_TAGS_PER_NAMESPACE, 128},
+    {"keys that open wrapped keys", TUFFALEEN_NUMBER_OF_KEY_ENCRYPTION_KEYS, 1},
 };
 
 static const struct known abilities[] = {
@@ -25,7 +29,8 @@ static const struct known abilities[] = {
     {"a key comes without a tweak key", TUFFALEEN_SHARED_TWEAK_KEY_REQUIRED, 1},
     {"all namespaces are managed together", TUFFALEEN_SCOPE, 0},
     {"a key may come in a KMIP message", TUFFALEEN_KMIP_KEY_INJECTION_SUPPORTED, 1},
-    {"a key may come wrapped with AES-KW", TUFFALEEN_AES_KW_SUPPORTED, 0},
+    {"a key may come wrapped with AES-KW", TUFFALEEN_AES_KW_SUPPORTED, 1},
+    {"what wraps it is a key of AES-256", TUFFALEEN_AES_256_WRAPPING_KEY_SUPPORTED, 1},
     {"replays are kept out", TUFFALEEN_REPLAY_PROTECTION_SUPPORTED, 0},
 };
 
@@ -80,7 +85,7 @@ static int differs(const char *what, size_t len, uint16_t awaited, uint32_t awai
 
 int main(void)
 {
-    int different = tuffaleen_start(image, sizeof image, marks, sizeof marks) != TUFFALEEN_DONE;
+    int different = tuffaleen_start(image, sizeof image, marks, sizeof marks, kek) != TUFFALEEN_DONE;
     different |= !ask();
     different |= differs("our drive", sizeof response, TUFFALEEN_DONE, 1);
     different |= differs("the same, its last byte lost", sizeof response - 1, TUFFALEEN_NOT_A_RESPONSE, 0);

@@ -13,6 +13,9 @@
 
 static uint8_t image[TUFFALEEN_IMAGE_BYTES], marks[TUFFALEEN_MARKS_BYTES];
 
+/* Opens wrapped keys. None comes here, so any will do. */
+static const uint8_t kek[TUFFALEEN_KEK_BYTES];
+
 static const struct { const char *what, *line; uint16_t answer; } steps[] = {
     {"one tag for namespace 1", "010101", TUFFALEEN_DONE},
     {"load HERON under tag 0", "03010000" HERON, TUFFALEEN_DONE},
@@ -25,7 +28,7 @@ static const struct { const char *what, *line; uint16_t answer; } steps[] = {
 
 int main(void)
 {
-    int different = tuffaleen_start(image, sizeof image, marks, sizeof marks) != TUFFALEEN_DONE;
+    int different = tuffaleen_start(image, sizeof image, marks, sizeof marks, kek) != TUFFALEEN_DONE;
     for (size_t i = 0; i < sizeof steps / sizeof *steps; i++) {
         uint8_t out[TUFFALEEN_ANSWER_BYTES];
         size_t written;

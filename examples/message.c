@@ -9,6 +9,9 @@
 
 static uint8_t image[TUFFALEEN_IMAGE_BYTES], marks[TUFFALEEN_MARKS_BYTES];
 
+/* Opens wrapped keys. None comes here, so any will do. */
+static const uint8_t kek[TUFFALEEN_KEK_BYTES];
+
 /* What has the key in it, beside the image of a drive that has taken it. None of it is printed; all three are wiped. */
 static uint8_t key[KEY_BYTES], message[TUFFALEEN_MESSAGE_BYTES], line[2 * (HEAD_BYTES + TUFFALEEN_MESSAGE_BYTES)];
 
@@ -67,7 +70,7 @@ static int office(size_t *message_len)
 /* In the drive: the message says itself which slot it is for, and is taken for no other. */
 static int drive(size_t message_len)
 {
-    int different = tuffaleen_start(image, sizeof image, marks, sizeof marks) != TUFFALEEN_DONE;
+    int different = tuffaleen_start(image, sizeof image, marks, sizeof marks, kek) != TUFFALEEN_DONE;
     different |= differs("two tags for namespace 1", ask((const uint8_t *)"010102", 6), TUFFALEEN_DONE);
     different |= differs("the message to tag 0", ask(line, write_line(1, 0, message_len)), TUFFALEEN_DONE);
     different |= differs("the same message to tag 1", ask(line, write_line(1, 1, message_len)), TUFFALEEN_NOT_A_MESSAGE);

@@ -14,6 +14,9 @@
 
 static uint8_t image[TUFFALEEN_IMAGE_BYTES], marks[TUFFALEEN_MARKS_BYTES];
 
+/* Opens wrapped keys. None comes here, so any will do. */
+static const uint8_t kek[TUFFALEEN_KEK_BYTES];
+
 static const char text[] =
     "010102\n"
     "03010000" HERON "\n"
@@ -64,7 +67,7 @@ static uint16_t session(size_t out_len, size_t *lines, size_t *written)
 int main(void)
 {
     size_t lines, written;
-    int different = tuffaleen_start(image, sizeof image, marks, sizeof marks) != TUFFALEEN_DONE;
+    int different = tuffaleen_start(image, sizeof image, marks, sizeof marks, kek) != TUFFALEEN_DONE;
 
     /* Room is judged for the whole text before its first line, so this call does nothing. */
     uint16_t result = session(sizeof out - 1, &lines, &written);

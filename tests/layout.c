@@ -13,10 +13,22 @@
 #define KEY_2 "2222222222222222222222222222222222222222222222222222222222222222"
 #define UID_16 "10" "A0A1A2A3A4A5A6A7A8A9AAABACADAEAF"
 
+/* RFC 3394, section 4.6: a key-encryption key, a key, and what it is wrapped to; and that with its last bit changed. */
+#define RFC_KEK "000102030405060708090A0B0C0D0E0F101112131415161718191A1B1C1D1E1F"
+#define RFC_KEY "00112233445566778899AABBCCDDEEFF000102030405060708090A0B0C0D0E0F"
+#define RFC_WRAPPED "28C9F404C4B810F4CBCCB35CFB87F8263F5786E2D80ED326CBC7F0E71A99F43BFB988B9B7A02DD2" "1"
+#define RFC_SPOILT "28C9F404C4B810F4CBCCB35CFB87F8263F5786E2D80ED326CBC7F0E71A99F43BFB988B9B7A02DD2" "0"
+
 /* An I/O command to namespace 1, from a first block, with a block count minus one and a key tag. */
 #define IO(opcode, block, more, tag) \
     "07" opcode "00000001000000" "0000000000000000000000000000000000000000000000000000000000000000" \
     block "00000000000000" more "00" "0100" tag "00" "00000000000000000000"
+
+/* The key-encryption key that drives start with here: that of RFC_KEK. Behind its 32 bytes there are others. */
+static const uint8_t kek[64] = {
+    0x00, 0x01, 0x02, 0x03, 0x04, 0x05, 0x06, 0x07, 0x08, 0x09, 0x0A, 0x0B, 0x0C, 0x0D, 0x0E, 0x0F,
+    0x10, 0x11, 0x12, 0x13, 0x14, 0x15, 0x16, 0x17, 0x18, 0x19, 0x1A, 0x1B, 0x1C, 0x1D, 0x1E, 0x1F,
+};
 
 static uint8_t image[ROOM], marks[ROOM], awaited_image[ROOM], awaited_marks[ROOM], out[ROOM], response[ROOM];
 static uint32_t fields[NUMBERS], awaited_fields[NUMBERS];
@@ -48,6 +60,20 @@ static uint16_t ask(const char *line)
     return ask_text(line, strlen(line));
 }
 
+/* The byte that two digits are. */
+static int byte_of(const char *digits)
+{
+    int high = digits[0] <= '9' ? digits[0] - '0' : digits[0] - 'A' + 10;
+    int low = digits[1] <= '9' ? digits[1] - '0' : digits[1] - 'A' + 10;
+    return high << 4 | low;
+}
+
+static void lay_digits(uint8_t *bytes, const char *digits)
+{
+    for (size_t i = 0; digits[2 * i] != 0; i++)
+        bytes[i] = byte_of(digits + 2 * i);
+}
+
 static uint16_t ask_frame(const uint8_t *frame, size_t len)
 {
     static char line[ROOM];
@@ -62,7 +88,7 @@ static void start(void)
 {
     memset(image, UNTOUCHED, ROOM);
     memset(marks, UNTOUCHED, ROOM);
-    uint16_t answer = tuffaleen_start(image, TUFFALEEN_IMAGE_BYTES, marks, TUFFALEEN_MARKS_BYTES);
+    uint16_t answer = tuffaleen_start(image, TUFFALEEN_IMAGE_BYTES, marks, TUFFALEEN_MARKS_BYTES, kek);
     CHECK(answer == TUFFALEEN_DONE, "start answers %04X", answer);
 }
 
@@ -125,6 +151,18 @@ static void load_by_message(int ns, int tag, uint8_t slot[49])
     CHECK(answer == TUFFALEEN_DONE, "load by message under tag %d of namespace %d: %04X", tag, ns, answer);
 }
 
+/* The same bytes as `load`, the key wrapped. */
+static void load_wrapped(int ns, int tag, uint8_t slot[49])
+{
+    lay_slot(ns, tag, slot);
+    uint8_t len = slot[0], frame[61] = {0x0E, ns, tag, 0, len};
+    memcpy(frame + 5, slot + 1, len);
+    memcpy(frame + 5 + len + 8, slot + 17, 32);
+    tuffaleen_wrap(kek, frame + 5 + len);
+    uint16_t answer = ask_frame(frame, 45 + len);
+    CHECK(answer == TUFFALEEN_DONE, "wrapped load under tag %d of namespace %d: %04X", tag, ns, answer);
+}
+
 static void await_as_now(void)
 {
     memcpy(awaited_image, image, ROOM);
@@ -151,20 +189,73 @@ static void check_buffer(int image_off, int marks_off, uint16_t awaited)
     uint16_t answer = tuffaleen_line(image, image_len, marks, marks_len, (const uint8_t *)"0B00", 4, out,
                                      TUFFALEEN_ANSWER_BYTES, &written);
     CHECK(answer == awaited, "a line, sizes off by %d and %d: %04X", image_off, marks_off, answer);
-    answer = tuffaleen_start(image, image_len, marks, marks_len);
+    answer = tuffaleen_start(image, image_len, marks, marks_len, kek);
     CHECK(answer == awaited, "start, sizes off by %d and %d: %04X", image_off, marks_off, answer);
     CHECK(as_awaited(), "bytes after calls with sizes off by %d and %d", image_off, marks_off);
 }
 
-static void check_fresh(void)
+static void await_fresh_image(const uint8_t *of_kek)
 {
     memset(awaited_image, UNTOUCHED, ROOM);
-    memset(awaited_marks, UNTOUCHED, ROOM);
     memset(awaited_image, 0, TUFFALEEN_IMAGE_BYTES);
-    memset(awaited_marks, 0, TUFFALEEN_MARKS_BYTES);
     lay(awaited_image, TUFFALEEN_LOCKS_AT, (uint8_t[]){TUFFALEEN_WRITE_LOCKED, TUFFALEEN_WRITE_LOCKED}, 2);
+    lay(awaited_image, TUFFALEEN_KEK_AT, of_kek, TUFFALEEN_KEK_BYTES);
+}
+
+static void check_fresh(void)
+{
+    await_fresh_image(kek);
+    memset(awaited_marks, UNTOUCHED, ROOM);
+    memset(awaited_marks, 0, TUFFALEEN_MARKS_BYTES);
     start();
     CHECK(as_awaited(), "the bytes of a fresh drive");
+}
+
+/* A drive in use is started with another key-encryption key. An image of the right length becomes the fresh drive's
+ * with that, marks of the right length become zero if the image is right too, and what is wrong stays. */
+static void check_other_kek(int image_off, int marks_off, uint16_t awaited)
+{
+    uint8_t other[64], slot[49];
+    for (size_t i = 0; i < sizeof other; i++)
+        other[i] = 255 - 5 * i;
+    start();
+    manage(2, 9);
+    load(2, 8, slot);
+    lay(marks, TUFFALEEN_MARK_AT(2, 7), slot, 17);
+    await_as_now();
+    if (image_off == 0)
+        await_fresh_image(other);
+    if (image_off == 0 && marks_off == 0)
+        memset(awaited_marks, 0, TUFFALEEN_MARKS_BYTES);
+    uint16_t answer = tuffaleen_start(image, TUFFALEEN_IMAGE_BYTES + image_off, marks,
+                                      TUFFALEEN_MARKS_BYTES + marks_off, other);
+    CHECK(answer == awaited && as_awaited(), "another key-encryption key, sizes off by %d and %d: %04X", image_off,
+          marks_off, answer);
+}
+
+/* The drive that was started last opens what its own key-encryption key wrapped, and nothing else. */
+static void check_own_kek(void)
+{
+    uint8_t frame[46] = {0x0E, 1, 0, 0, 1, 0xAA};
+    manage(1, 1);
+    tuffaleen_wrap(kek, frame + 6);
+    uint16_t answer = ask_frame(frame, sizeof frame);
+    CHECK(answer == TUFFALEEN_INTEGRITY_FAILED, "wrapped for the drive before: %04X", answer);
+    memset(frame + 6, 0, 40);
+    tuffaleen_wrap(image + TUFFALEEN_KEK_AT, frame + 6);
+    answer = ask_frame(frame, sizeof frame);
+    CHECK(answer == TUFFALEEN_DONE, "wrapped for this drive: %04X", answer);
+}
+
+static void check_other_keks(void)
+{
+    check_other_kek(0, 0, TUFFALEEN_DONE);
+    check_own_kek();
+    for (int off = -1; off <= 1; off += 2) {
+        check_other_kek(off, 0, TUFFALEEN_UNSOUND_STATE);
+        check_other_kek(0, off, TUFFALEEN_STORE_LENGTH);
+        check_other_kek(off, off, TUFFALEEN_STORE_LENGTH);
+    }
 }
 
 static void check_output(void)
@@ -237,6 +328,34 @@ static void check_line_without_message(void)
         uint16_t answer = ask_text(digits, lines[i].len);
         CHECK(answer == lines[i].answer, "a replace of %d digits: %04X", (int)lines[i].len, answer);
     }
+}
+
+/* A wrapped load with a KeyUID of one byte has 92 digits; what it brings is the key inside. */
+static void check_wrapped_line(void)
+{
+    static const struct { size_t len; uint16_t answer; } lines[] = {
+        {8, TUFFALEEN_WRONG_FRAME_LENGTH},
+        {76, TUFFALEEN_WRONG_FRAME_LENGTH}, /* as long as with a bare key */
+        {90, TUFFALEEN_WRONG_FRAME_LENGTH},
+        {94, TUFFALEEN_WRONG_FRAME_LENGTH},
+        {TUFFALEEN_LINE_BYTES, TUFFALEEN_WRONG_FRAME_LENGTH},
+        {TUFFALEEN_LINE_BYTES + 2, TUFFALEEN_NOT_A_FRAME_LINE},
+        {92, TUFFALEEN_DONE},
+    };
+    static char digits[ROOM];
+    uint8_t slot[49] = {1, 0xAA};
+    lay_digits(slot + 17, RFC_KEY);
+    memset(digits, '0', ROOM);
+    memcpy(digits, "0E010000" "01AA" RFC_WRAPPED, 92);
+    start();
+    manage(1, 1);
+    await_as_now();
+    lay(awaited_image, TUFFALEEN_SLOT_AT(1, 0), slot, sizeof slot);
+    for (size_t i = 0; i < sizeof lines / sizeof *lines; i++) {
+        uint16_t answer = ask_text(digits, lines[i].len);
+        CHECK(answer == lines[i].answer, "a wrapped load of %d digits: %04X", (int)lines[i].len, answer);
+    }
+    CHECK(as_awaited(), "the slot that a wrapped load brings");
 }
 
 /* The longest message has 504 bytes: one with a KeyUID of 16, and at its end an item of 8 bytes and 88 that nothing
@@ -330,7 +449,9 @@ static int check_slots(void (*load_slot)(int, int, uint8_t[49]))
         }
     }
     CHECK(TUFFALEEN_SLOT_AT(1, 0) == TUFFALEEN_SLOTS_AT, "the first slot is not at SLOTS_AT");
-    CHECK(TUFFALEEN_SLOT_AT(5, 0) == TUFFALEEN_IMAGE_BYTES, "the image does not end with its last slot");
+    CHECK(TUFFALEEN_SLOT_AT(5, 0) == TUFFALEEN_KEK_AT, "the key-encryption key is not behind the last slot");
+    CHECK(TUFFALEEN_KEK_AT + TUFFALEEN_KEK_BYTES == TUFFALEEN_IMAGE_BYTES,
+          "the image does not end with its key-encryption key");
     CHECK(TUFFALEEN_SLOT_BYTES == 49, "a slot has %d bytes", TUFFALEEN_SLOT_BYTES);
     return seen;
 }
@@ -403,6 +524,8 @@ static const struct { size_t at; uint8_t byte; uint16_t answer; } laid[] = {
     {TUFFALEEN_SLOT_AT(2, 127), 1, TUFFALEEN_UNSOUND_STATE},
     {TUFFALEEN_SLOT_AT(4, 127), 1, TUFFALEEN_UNSOUND_STATE},
     {TUFFALEEN_SLOT_AT(4, 127) + 48, 1, TUFFALEEN_UNSOUND_STATE},
+    {TUFFALEEN_KEK_AT, 1, TUFFALEEN_DONE},
+    {TUFFALEEN_KEK_AT + 31, 255, TUFFALEEN_DONE},
 };
 
 static void check_soundness(void)
@@ -418,6 +541,63 @@ static void check_soundness(void)
         CHECK(answer == laid[i].answer, "%d laid at byte %d of the image: %04X", laid[i].byte, (int)laid[i].at,
               answer);
     }
+}
+
+/* Lines of every kind but 0D, each accepted where namespace 1 has 128 tags and no keys; they end in such a state. */
+static const char *const every_kind[] = {
+    "010303", "0203", "0301000001AA" KEY_1, "0401000001AA01BB" KEY_2, "0E010100" "01CC" RFC_WRAPPED,
+    IO("01", "00", "09", "00"), IO("02", "00", "09", "00"), "05010000", "0601", "0801000000", "09", "0A00", "0B00",
+    "0B01", "0C",
+};
+
+static int kek_stands(void)
+{
+    return TUFFALEEN_KEK_AT <= ROOM - sizeof kek && memcmp(image + TUFFALEEN_KEK_AT, kek, 32) == 0;
+}
+
+static void check_kek_after_session(const char *text, size_t len, size_t out_len, uint16_t awaited)
+{
+    size_t lines;
+    uint16_t answer = tuffaleen_session(image, TUFFALEEN_IMAGE_BYTES, marks, TUFFALEEN_MARKS_BYTES,
+                                        (const uint8_t *)text, len, out, out_len, &lines, &written);
+    CHECK(answer == awaited && kek_stands(), "the key-encryption key after a session of %d lines: %04X", (int)lines,
+          answer);
+}
+
+/* Line by line, then all as one session, with room and without. */
+static void check_kek_kept(void)
+{
+    static char text[ROOM];
+    size_t len = 0;
+    uint8_t slot[49];
+    start();
+    manage(1, 128);
+    for (size_t i = 0; i < sizeof every_kind / sizeof *every_kind; i++) {
+        size_t line_len = strlen(every_kind[i]);
+        uint16_t answer = ask_in(ROOM, every_kind[i], line_len);
+        CHECK(answer == TUFFALEEN_DONE && kek_stands(), "the key-encryption key after %s: %04X", every_kind[i], answer);
+        memcpy(text + len, every_kind[i], line_len);
+        len += line_len;
+        text[len++] = '\n';
+    }
+    load_by_message(1, 127, slot);
+    CHECK(kek_stands(), "the key-encryption key after a load by message");
+    check_kek_after_session(text, len, ROOM, TUFFALEEN_DONE);
+    check_kek_after_session(text, len, 1, TUFFALEEN_OUTPUT_TOO_SHORT);
+}
+
+/* Whoever has the image may wrap and open with the key that lies there. */
+static void check_kek_lent(void)
+{
+    uint8_t bytes[40] = {0}, awaited[40];
+    lay_digits(bytes + 8, RFC_KEY);
+    lay_digits(awaited, RFC_WRAPPED);
+    start();
+    await_as_now();
+    tuffaleen_wrap(image + TUFFALEEN_KEK_AT, bytes);
+    int same = memcmp(bytes, awaited, 40) == 0;
+    uint16_t answer = tuffaleen_unwrap(image + TUFFALEEN_KEK_AT, bytes);
+    CHECK(same && answer == TUFFALEEN_DONE && as_awaited(), "a key wrapped and opened with the image's: %04X", answer);
 }
 
 /* Asked before each line below. Of three tags in namespace 1 two are loaded; blocks 0 to 9 are written under AA. */
@@ -454,6 +634,7 @@ static const struct { const char *name; uint16_t number; const char *digits, *li
     {OF(TUFFALEEN_INVALID_FIELD), "0002", "0A02"},
     {OF(TUFFALEEN_INVALID_NAMESPACE), "000B", "0205"},
     {OF(TUFFALEEN_INVALID_KEY_TAG), "0025", "05010300"},
+    {OF(TUFFALEEN_INVALID_KEY_TAG), "0025", "0E010300" "01CC" RFC_SPOILT},
     {OF(TUFFALEEN_WRONG_KEY), "0028", IO("02", "09", "00", "01")},
     {OF(TUFFALEEN_BLOCK_RANGE), "0080", IO("02", "FF", "01", "00")},
     {OF(TUFFALEEN_LOCK_NOT_CHANGEABLE), "010E", "0801000000"},
@@ -470,6 +651,8 @@ static const struct { const char *name; uint16_t number; const char *digits, *li
     {OF(TUFFALEEN_SLOT_EMPTY), "070A", "05010200"},
     {OF(TUFFALEEN_OLD_KEY_UID), "070B", "0401000001BB01CC" KEY_1},
     {OF(TUFFALEEN_OTHER_KEY), "070C", "0301020001AA" KEY_2},
+    {OF(TUFFALEEN_INTEGRITY_FAILED), "0710", "0E010000" "01AA" RFC_SPOILT},
+    {OF(TUFFALEEN_INTEGRITY_FAILED), "0710", "0E010200" "01CC" RFC_SPOILT},
     {OF(TUFFALEEN_NOT_A_MESSAGE), "0717", "0D010200"},
     {OF(TUFFALEEN_MESSAGE_KEY_UID), "0718", EMPTY_KEY_UID},
 };
@@ -508,6 +691,7 @@ static int check_line_answers(void)
         size_t len = strlen(answers[i].digits);
         CHECK(written == len + 1 && memcmp(out, answers[i].digits, len) == 0 && out[len] == '\n',
               "%s is written as %.*s, not %s", answers[i].name, (int)len, (const char *)out, answers[i].digits);
+        CHECK(kek_stands(), "the key-encryption key after the answer %s", answers[i].digits);
         seen += i == 0 || strcmp(answers[i - 1].digits, answers[i].digits) < 0;
     }
     return seen;
@@ -516,9 +700,7 @@ static int check_line_answers(void)
 /* The byte that two digits of an answer are. */
 static int answer_byte(size_t at)
 {
-    int high = out[at] <= '9' ? out[at] - '0' : out[at] - 'A' + 10;
-    int low = out[at + 1] <= '9' ? out[at + 1] - '0' : out[at + 1] - 'A' + 10;
-    return high << 4 | low;
+    return byte_of((const char *)out + at);
 }
 
 /* Asks a line of zeros with a letter at a place, if that is not -1, and tells whether it is no frame line. */
@@ -639,6 +821,9 @@ static const struct { int place; uint32_t number; } own_fields[] = {
     {TUFFALEEN_ENABLED, 1},
     {TUFFALEEN_MAXIMUM_KEY_UID_LENGTH, 16},
     {TUFFALEEN_KMIP_KEY_INJECTION_SUPPORTED, 1},
+    {TUFFALEEN_AES_KW_SUPPORTED, 1},
+    {TUFFALEEN_AES_256_WRAPPING_KEY_SUPPORTED, 1},
+    {TUFFALEEN_NUMBER_OF_KEY_ENCRYPTION_KEYS, 1},
     {TUFFALEEN_TOTAL_NUMBER_OF_KEY_TAGS, 256},
     {TUFFALEEN_MAXIMUM_KEY_TAGS_PER_NAMESPACE, 128},
 };
@@ -872,11 +1057,126 @@ static void check_no_messages(void)
     }
 }
 
-/* What version 2 stored, by its own numbers: tag counts of 32, 31, 0 and 1, and AA as the KeyUID of namespace 4, block
- * 255. Made anew from that after a loss of power, the drive is sound and tells the block as written under AA. */
-static void check_stored_by_2(void)
+/* Where a key-encryption key and 40 bytes lie to be worked on. Neither is aligned, and around them nothing changes. */
+#define OPENER_AT 101
+#define BYTES_AT 1001
+
+static uint8_t desk[ROOM], awaited_desk[ROOM];
+
+static void lay_desk(const uint8_t opener[32], const uint8_t bytes[40], const uint8_t awaited[40])
 {
-    static const uint8_t counts[] = {32, 31, 0, 1}, mark[17] = {1, 0xAA};
+    memset(desk, UNTOUCHED, ROOM);
+    memcpy(desk + OPENER_AT, opener, 32);
+    memcpy(awaited_desk, desk, ROOM);
+    memcpy(desk + BYTES_AT, bytes, 40);
+    memcpy(awaited_desk + BYTES_AT, awaited, 40);
+}
+
+static int desk_as_awaited(void)
+{
+    return memcmp(desk, awaited_desk, ROOM) == 0;
+}
+
+/* Key-encryption key, key and wrapped key: that of RFC 3394, and some of tests/model/wrapped-keys.txt, which OpenSSL
+ * made. */
+static const struct { const char *opener, *key, *wrapped; } wrappings[] = {
+    {RFC_KEK, RFC_KEY, RFC_WRAPPED},
+    {RFC_KEK, KEY_1, "801B521D957E5A3602BD18A3B11512CC9FB0822DD0D34969123DA8B1DAB7E8072A5BE56EC9B7F4C9"},
+    {RFC_KEK, RFC_KEK, "82C693BFF487DB7C31A7F0CC440AD9E37709511B52EFCE48094B4548EEE3CFC2BF7805B51201BC01"},
+    {"FFFFFFFFFFFFFFFFFFFFFFFFFFFFFFFFFFFFFFFFFFFFFFFFFFFFFFFFFFFFFFFF",
+     "FFFFFFFFFFFFFFFFFFFFFFFFFFFFFFFFFFFFFFFFFFFFFFFFFFFFFFFFFFFFFFFF",
+     "C5CD49443FFEB12D6A7C72B7665CA1E341D68A6E6FC54FCF77B567A3CE15BE9EC76E27121E648C44"},
+    {"480CCBF99C4329C34D9921AA84510F72E06AB7FA45797BF00BEF0EC8C4B09764",
+     "4897FF955C2A4DD7F361B24F8EB8EC697E14857AF4D610688320B88F1693EDFA",
+     "D6B16138084A1CEE6B32305ED440C052D0C9222587BCAA25B9ADE063A74711DB78790E4B44A79353"},
+    {"A04F0BFD94A7955186DBA380D6A84B2D084B387437F859B2FD010C1D53AF6E17",
+     "47431387476DBBEEBDBF5516C5A49187D8D39B0998F0F104D693008B68BAF549",
+     "38C9B0545D3243AB47D5FC27AA6FF533D92D529E85A7BFF09FE3D42726AD6B6C6B1CF90A1F10671E"},
+};
+
+/* None of RFC_WRAPPED's bytes is UNTOUCHED. */
+static void check_wrapped_size(void)
+{
+    int size = 0;
+    memset(desk, UNTOUCHED, ROOM);
+    lay_digits(desk + OPENER_AT, RFC_KEK);
+    lay_digits(desk + BYTES_AT + 8, RFC_KEY);
+    tuffaleen_wrap(desk + OPENER_AT, desk + BYTES_AT);
+    for (int i = 0; i < ROOM - BYTES_AT; i++)
+        size = desk[BYTES_AT + i] == UNTOUCHED ? size : i + 1;
+    CHECK(size == TUFFALEEN_WRAPPED_BYTES, "a wrapped key has %d bytes, and is written as %d", TUFFALEEN_WRAPPED_BYTES,
+          size);
+}
+
+/* A key, behind whatever stands before it, becomes the wrapped one; and that becomes the key, behind A6s. */
+static void check_wrapping(const uint8_t opener[32], const uint8_t open[40], const uint8_t wrapped[40], int which)
+{
+    uint8_t before[40];
+    memcpy(before, open, 40);
+    for (int first = 0; first < 256; first++) {
+        memset(before, first, 8);
+        lay_desk(opener, before, wrapped);
+        tuffaleen_wrap(desk + OPENER_AT, desk + BYTES_AT);
+        CHECK(desk_as_awaited(), "key %d is wrapped to other bytes", which);
+    }
+    lay_desk(opener, wrapped, open);
+    uint16_t answer = tuffaleen_unwrap(desk + OPENER_AT, desk + BYTES_AT);
+    CHECK(answer == TUFFALEEN_DONE && desk_as_awaited(), "wrapped key %d is opened to other bytes: %04X", which,
+          answer);
+}
+
+/* One bit of the key-encryption key or of the wrapped key is another. */
+static void check_spoilt(const uint8_t opener[32], const uint8_t wrapped[40], int which)
+{
+    static const uint8_t zeros[40];
+    uint8_t both[32 + 40];
+    memcpy(both, opener, 32);
+    memcpy(both + 32, wrapped, 40);
+    for (int bit = 0; bit < 8 * (32 + 40); bit++) {
+        both[bit / 8] ^= 1 << bit % 8;
+        lay_desk(both, both + 32, zeros);
+        uint16_t answer = tuffaleen_unwrap(desk + OPENER_AT, desk + BYTES_AT);
+        CHECK(answer == TUFFALEEN_INTEGRITY_FAILED, "wrapped key %d, bit %d changed: %04X", which, bit, answer);
+        CHECK(answer == 0x0710 && desk_as_awaited(), "wrapped key %d, bit %d changed: bytes are left", which, bit);
+        both[bit / 8] ^= 1 << bit % 8;
+    }
+}
+
+static void check_wrappings(void)
+{
+    for (size_t i = 0; i < sizeof wrappings / sizeof *wrappings; i++) {
+        uint8_t opener[32], open[40], wrapped[40];
+        memset(open, 0xA6, 8);
+        lay_digits(opener, wrappings[i].opener);
+        lay_digits(open + 8, wrappings[i].key);
+        lay_digits(wrapped, wrappings[i].wrapped);
+        check_wrapping(opener, open, wrapped, i);
+        check_spoilt(opener, wrapped, i);
+    }
+}
+
+/* Keys and key-encryption keys of all kinds of bytes: wrapped and opened, a key is what it was. Each is made of the one
+ * before. */
+static void check_wrapped_and_opened(void)
+{
+    uint8_t opener[32] = {0}, open[40], wrapped[40] = {0};
+    for (int turn = 0; turn < 1000; turn++) {
+        memcpy(opener, wrapped + turn % 9, 32);
+        memset(open, 0xA6, 8);
+        memcpy(open + 8, wrapped, 32);
+        memcpy(wrapped, open, 40);
+        tuffaleen_wrap(opener, wrapped);
+        lay_desk(opener, wrapped, open);
+        uint16_t answer = tuffaleen_unwrap(desk + OPENER_AT, desk + BYTES_AT);
+        CHECK(answer == TUFFALEEN_DONE && desk_as_awaited(), "turn %d, wrapped and opened: %04X", turn, answer);
+    }
+}
+
+/* What versions 2 and 3 stored, by their own numbers: the most tag counts, and AA as the KeyUID of namespace 4, block
+ * 255. Made anew from that after a loss of power, the drive is sound and tells the block as written under AA. */
+static void check_stored_before(const uint8_t counts[4])
+{
+    static const uint8_t mark[17] = {1, 0xAA};
     static const struct { const char *load; uint16_t answer; } keys[] = {
         {"0304000001BB" KEY_2, TUFFALEEN_WRONG_KEY},
         {"0304000001AA" KEY_1, TUFFALEEN_DONE},
@@ -887,11 +1187,11 @@ static void check_stored_by_2(void)
         frame[41] = 255;
         frame[51] = 1;
         start();
-        lay(image, TUFFALEEN_COUNTS_AT, counts, sizeof counts);
+        lay(image, TUFFALEEN_COUNTS_AT, counts, 4);
         lay(marks, ((4 - 1) * 256 + 255) * 17, mark, sizeof mark);
         uint16_t loaded = ask(keys[i].load), answer = ask_frame(frame, sizeof frame);
-        CHECK(loaded == TUFFALEEN_DONE && answer == keys[i].answer, "what version 2 stored: %04X, %04X", loaded,
-              answer);
+        CHECK(loaded == TUFFALEEN_DONE && answer == keys[i].answer, "stored before, %d tags: %04X, %04X", counts[0],
+              loaded, answer);
     }
 }
 
@@ -899,9 +1199,10 @@ static void check_stored_by_2(void)
 static void check_version(void)
 {
     int stored_as_in_2 = TUFFALEEN_COUNTS_AT == 0 && TUFFALEEN_MARKS_BYTES == 17408 && TUFFALEEN_MARK_BYTES == 17;
-    int as_in_3 = stored_as_in_2 && TUFFALEEN_IMAGE_BYTES == 25094 && TUFFALEEN_LOCKS_AT == 4 &&
-                  TUFFALEEN_SLOTS_AT == 6 && TUFFALEEN_SLOT_BYTES == 49 && TUFFALEEN_SLOT_AT(2, 0) == 6 + 128 * 49;
-    CHECK(as_in_3 == (TUFFALEEN_LAYOUT_VERSION == 3), "layout version %d", TUFFALEEN_LAYOUT_VERSION);
+    int as_in_3 = stored_as_in_2 && TUFFALEEN_LOCKS_AT == 4 && TUFFALEEN_SLOTS_AT == 6 && TUFFALEEN_SLOT_BYTES == 49 &&
+                  TUFFALEEN_SLOT_AT(2, 0) == 6 + 128 * 49;
+    int as_in_4 = as_in_3 && TUFFALEEN_IMAGE_BYTES == 25126 && TUFFALEEN_KEK_AT == 25094 && TUFFALEEN_KEK_BYTES == 32;
+    CHECK(as_in_4 == (TUFFALEEN_LAYOUT_VERSION == 4), "layout version %d", TUFFALEEN_LAYOUT_VERSION);
 }
 
 /* With a wrong one of these the others would fail too. */
@@ -918,6 +1219,7 @@ static void check_sizes(void)
     check_line_length();
     check_discovery_room();
     check_message_room();
+    check_wrapped_size();
 }
 
 static void check_all_features(void)
@@ -936,17 +1238,25 @@ int main(void)
     int slots = 0, written_marks = 0, numbers = 0, names = 0, reasons = 0;
     check_sizes();
     if (failures == 0) {
+        check_other_keks();
         check_line_without_message();
+        check_wrapped_line();
         check_longest_message();
         check_no_messages();
         check_counts();
         check_locks();
         slots = check_slots(load);
         CHECK(check_slots(load_by_message) == slots, "the slots that messages bring");
+        CHECK(check_slots(load_wrapped) == slots, "the slots that wrapped loads bring");
         check_cleared_slots();
         written_marks = check_marks();
         check_soundness();
-        check_stored_by_2();
+        check_stored_before((uint8_t[]){32, 31, 0, 1});
+        check_stored_before((uint8_t[]){128, 127, 0, 1});
+        check_kek_kept();
+        check_kek_lent();
+        check_wrappings();
+        check_wrapped_and_opened();
         check_own_response();
         names = check_fields();
         check_all_features();

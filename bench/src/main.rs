@@ -5,6 +5,7 @@ mod messages;
 mod mix;
 mod race;
 mod series;
+mod wraps;
 
 use model::lines::{clear_all, power_cycle, read};
 use model::numbers::POOL;
@@ -16,6 +17,8 @@ const MESSAGES: usize = 20_000;
 fn main() {
     let (first, told) = mix::mixed(FRAMES, mix::FIRST);
     tell(&format!("{FRAMES} mixed frames"), &first, &told);
+    let (up_to_0d, told) = mix::mixed(FRAMES, mix::UP_TO_0D);
+    tell(&format!("{FRAMES} frames of kinds up to 0D"), &up_to_0d, &told);
     let (all_kinds, told) = mix::mixed(FRAMES, mix::ALL_KINDS);
     tell(&format!("{FRAMES} frames of all kinds"), &all_kinds, &told);
     let (messages, told) = messages::messages(MESSAGES);
@@ -29,15 +32,19 @@ fn main() {
     print_by_tags();
     print("mixed, call by call; model on its own state", lines(&first, false));
     print("mixed, call by call; model from and to image", lines(&first, true));
+    let of_older = print("frames of kinds up to 0D, one session", sessions(&up_to_0d));
     let of_all = print("frames of all kinds, one session", sessions(&all_kinds));
     let of_messages = print("loads by message, half damaged, one session", sessions(&messages));
     print_messages();
     print_bad_lines();
+    let of_wrapped = print_wrapped();
 
     println!();
     judge(&format!("{FRAMES} mixed frames"), of_first);
+    judge(&format!("{FRAMES} frames of kinds up to 0D"), of_older);
     judge(&format!("{FRAMES} frames of all kinds"), of_all);
     judge(&format!("{MESSAGES} loads by message"), of_messages);
+    judge("wrapped load and clear", of_wrapped);
 }
 
 fn tell(what: &str, course: &Course, told: &str) {
@@ -96,6 +103,19 @@ fn print_bad_lines() {
     ] {
         print(&format!("no frame line: {what}"), sessions(&series::bad_lines(digits, bad)));
     }
+}
+
+/// Tells the times of wrapped loads as one session. Where it says so, they are those of a key.
+fn print_wrapped() -> Times {
+    let row = |others| format!("wrapped load and clear, {others} others");
+    let times = print(&row(0), sessions(&series::wrapped_loads(0)));
+    print(&row(POOL - 1), sessions(&series::wrapped_loads(POOL - 1)));
+    print("wrapped load and clear, call by call", lines(&series::wrapped_loads(0), false));
+    print("wrapped load refused", sessions(&series::refused_wrapped_loads()));
+    print("a key wrapped", wraps::wraps());
+    print("a key opened", wraps::unwraps());
+    print("a key that does not open", wraps::refused());
+    times
 }
 
 fn print(what: &str, times: Times) -> Times {

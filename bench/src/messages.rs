@@ -5,7 +5,7 @@ use std::collections::BTreeMap;
 use embed::Rng;
 use model::lines::*;
 use model::messages::*;
-use model::numbers::{KEY, NAMESPACES, POOL, ROOM, STORE};
+use model::numbers::{KEY, NAMESPACES, POOL, PROGRAM_KEK, ROOM, STORE};
 use model::{kmip, status, Drive};
 
 use crate::mix::counts;
@@ -36,7 +36,7 @@ pub fn messages(lines: usize) -> (Course, String) {
 }
 
 fn managed(marks: &mut [u8]) -> Drive {
-    let (_, mut drive) = Drive::start(marks);
+    let (_, mut drive) = Drive::start(&PROGRAM_KEK, marks);
     for namespace in 1..=NAMESPACES as u8 {
         let line = manage(namespace, TAGS_EACH as u8);
         assert_eq!(drive.line(marks, line.as_bytes(), &mut [0; ROOM]).0, status::DONE);

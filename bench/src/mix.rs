@@ -4,7 +4,10 @@ use std::collections::BTreeMap;
 
 use embed::Rng;
 use model::lines::*;
-use model::numbers::{BLOCKS, DISCOVERY_ROOM, FRAME, NAMESPACES, POOL, SLOT, STORE, TAGS};
+use model::numbers::{
+    BLOCKS, DISCOVERY_ROOM, FRAME, KEY, NAMESPACES, POOL, PROGRAM_KEK, SLOT, STORE, TAGS, WRAPPED,
+};
+use model::wrap::wrap;
 use model::Drive;
 
 use crate::messages::damaged;
@@ -43,8 +46,9 @@ pub const FIRST: Recipe = Recipe {
     longest: 142,
 };
 
-/// Every kind that there is.
-pub const ALL_KINDS: Recipe = Recipe {
+/// Every kind that there was before wrapped keys, and the same text, so that its figures can be
+/// compared.
+pub const UP_TO_0D: Recipe = Recipe {
     kinds: &[
         (0x01, 20),
         (0x02, 3),
@@ -59,6 +63,27 @@ pub const ALL_KINDS: Recipe = Recipe {
         (0x0B, 10),
         (0x0C, 5),
         (0x0D, 40),
+    ],
+    longest: 2 * FRAME + 2,
+};
+
+/// Every kind that there is: as many wrapped keys as messages.
+pub const ALL_KINDS: Recipe = Recipe {
+    kinds: &[
+        (0x01, 20),
+        (0x02, 3),
+        (0x03, 150),
+        (0x04, 100),
+        (0x05, 50),
+        (0x06, 3),
+        (0x07, 425),
+        (0x08, 40),
+        (0x09, 30),
+        (0x0A, 30),
+        (0x0B, 10),
+        (0x0C, 5),
+        (0x0D, 40),
+        (0x0E, 40),
     ],
     longest: 2 * FRAME + 2,
 };
@@ -84,9 +109,8 @@ pub fn mixed(frames: usize, recipe: Recipe) -> (Course, String) {
         mix.add(line);
     }
     let told = format!("kinds    {}\nanswers  {}", counts(&mix.kinds), counts(&mix.answers));
-    let course =
-        Course { text: mix.text, lines: frames, drive: Drive::fresh(), marks: vec![0; STORE] };
-    (course, told)
+    let drive = Drive::fresh(&PROGRAM_KEK);
+    (Course { text: mix.text, lines: frames, drive, marks: vec![0; STORE] }, told)
 }
 
 pub fn counts(counts: &BTreeMap<String, usize>) -> String {
@@ -96,7 +120,7 @@ pub fn counts(counts: &BTreeMap<String, usize>) -> String {
 impl Mix {
     fn new(recipe: Recipe) -> Mix {
         let mut marks = vec![0; STORE];
-        let (_, drive) = Drive::start(&mut marks);
+        let (_, drive) = Drive::start(&PROGRAM_KEK, &mut marks);
         let (kinds, answers) = (BTreeMap::new(), BTreeMap::new());
         let (rng, text) = (Rng::new(SEED), Vec::new());
         Mix { recipe, rng, drive, marks, text, kinds, answers }
@@ -114,7 +138,7 @@ impl Mix {
 
     fn line(&mut self) -> String {
         let kind = self.kind();
-        let (namespace, tag) = self.place(!matches!(kind, Some(0x03 | 0x0D)));
+        let (namespace, tag) = self.place(!matches!(kind, Some(0x03 | 0x0D | 0x0E)));
         match kind {
             Some(0x01) => manage(namespace, TAGS_EACH),
             Some(0x02) => release(namespace),
@@ -130,6 +154,7 @@ impl Mix {
             Some(0x0B) => controller_reset(),
             Some(0x0C) => discovery(),
             Some(0x0D) => self.load_by_message(namespace, tag),
+            Some(0x0E) => self.load_wrapped(namespace, tag),
             _ => self.no_frame(),
         }
     }
@@ -178,6 +203,16 @@ impl Mix {
             true => damaged(&mut self.rng, namespace, tag, &uid, key),
             false => message_load(namespace, tag, &uid, key),
         }
+    }
+
+    /// One in four does not open: a bit of it is wrong.
+    fn load_wrapped(&mut self, namespace: u8, tag: u16) -> String {
+        let (uid, key) = self.material();
+        let mut wrapped = wrap(&PROGRAM_KEK, &[key; KEY]);
+        if self.rng.once_in(4) {
+            wrapped[self.rng.below(WRAPPED)] ^= 1 << self.rng.below(8);
+        }
+        wrapped_frame(namespace, tag, &uid, &wrapped)
     }
 
     fn replace(&mut self, namespace: u8, tag: u16) -> String {

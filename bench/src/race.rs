@@ -111,6 +111,34 @@ pub fn lines(course: &Course, by_image: bool) -> Times {
     Times { proved: ours.best, model: theirs.best }
 }
 
+/// Many keys, each by one call and in place; the times are those of a call.
+pub fn keys<const N: usize>(
+    keys: &[[u8; N]],
+    by_proved: impl Fn(&mut [u8; N]),
+    by_model: impl Fn(&mut [u8; N]),
+) -> Times {
+    let mut best = Times { proved: f64::INFINITY, model: f64::INFINITY };
+    let (mut ours, mut theirs) = (keys.to_vec(), keys.to_vec());
+    for round in 0..=ROUNDS {
+        ours.copy_from_slice(keys);
+        theirs.copy_from_slice(keys);
+        let proved = each(black_box(&mut ours), &by_proved);
+        let model = each(black_box(&mut theirs), &by_model);
+        assert!(ours == theirs, "the keys differ");
+        if round > 0 {
+            best = Times { proved: best.proved.min(proved), model: best.model.min(model) };
+        }
+    }
+    best
+}
+
+/// Nanoseconds a key.
+fn each<const N: usize>(keys: &mut [[u8; N]], call: impl Fn(&mut [u8; N])) -> f64 {
+    let since = clock::nanoseconds();
+    keys.iter_mut().for_each(call);
+    (clock::nanoseconds() - since) as f64 / keys.len() as f64
+}
+
 fn line_by_image(image: &mut [u8], marks: &mut [u8], line: &[u8], out: &mut [u8]) -> usize {
     let mut drive = Drive::from_image(image).expect("an image");
     let (_, written) = drive.line(marks, line, out);

@@ -3,13 +3,16 @@
 use model::kmip;
 use model::lines::*;
 use model::messages::{edited, with_byte, UNKNOWN};
-use model::numbers::{KEY, KEY_UID, POOL, ROOM, STORE, TAGS};
+use model::numbers::{KEY, KEY_UID, POOL, PROGRAM_KEK, ROOM, STORE, TAGS};
 use model::ttlv::Node;
+use model::wrap::wrap;
 use model::{status, Drive};
 
 use crate::race::Course;
 
 const FRAMES: usize = 20_000;
+/// How many keys come in turn where it may matter which.
+const KEYS: u8 = 64;
 
 /// A load and its clear in turn, in a full pool with so many other slots loaded. The KeyUIDs have
 /// 16 bytes and differ in one.
@@ -36,11 +39,32 @@ fn load_and_clear(others: usize, uid: impl Fn(usize) -> String) -> Course {
 }
 
 fn line_and_clear(others: usize, uid: impl Fn(usize) -> String, line: String) -> Course {
-    let loaded = (1..=others).map(|slot| {
+    course(whole_pool().chain(loaded(others, uid)), &[line, clear_one(1, 0)])
+}
+
+/// Loads into so many slots behind the first.
+fn loaded(others: usize, uid: impl Fn(usize) -> String) -> impl Iterator<Item = String> {
+    (1..=others).map(move |slot| {
         let (namespace, tag) = (1 + slot / TAGS, slot % TAGS);
         load(namespace as u8, tag as u16, &uid(slot), slot as u8)
+    })
+}
+
+/// A load of a wrapped key and its clear in turn, with so many other slots loaded.
+pub fn wrapped_loads(others: usize) -> Course {
+    let uid = |slot: usize| hex(&[0x5A, slot as u8]);
+    let turns = (0..KEYS).flat_map(|key| [wrapped_load(1, 0, &uid(0), !key), clear_one(1, 0)]);
+    course(whole_pool().chain(loaded(others, uid)), &turns.collect::<Vec<_>>())
+}
+
+/// Wrapped keys that do not open.
+pub fn refused_wrapped_loads() -> Course {
+    let turns = (0..KEYS).map(|key| {
+        let mut wrapped = wrap(&PROGRAM_KEK, &[key; KEY]);
+        wrapped[usize::from(key) % wrapped.len()] ^= 1;
+        wrapped_frame(1, 0, "5A00", &wrapped)
     });
-    course(whole_pool().chain(loaded), &[line, clear_one(1, 0)])
+    course(whole_pool(), &turns.collect::<Vec<_>>())
 }
 
 /// A load by message and its clear in turn, with so many other slots loaded and so many items more
@@ -102,7 +126,7 @@ fn recorded() -> [String; 3] {
 
 fn course(before: impl IntoIterator<Item = String>, turns: &[String]) -> Course {
     let mut marks = vec![0; STORE];
-    let (_, mut drive) = Drive::start(&mut marks);
+    let (_, mut drive) = Drive::start(&PROGRAM_KEK, &mut marks);
     for line in before {
         let (number, _) = drive.line(&mut marks, line.as_bytes(), &mut [0; ROOM]);
         assert_eq!(number, status::DONE, "{line}");

@@ -28,7 +28,7 @@ pub enum Answer {
     Unknown,
 }
 
-const PLAIN: [(u16, &str); 26] = [
+const PLAIN: [(u16, &str); 27] = [
     (0x0001, "the command is no record, play, compare or verify"),
     (0x0002, "a field has a value that it cannot have"),
     (0x000B, "there is no such room: rooms are 1 to 4"),
@@ -38,7 +38,7 @@ const PLAIN: [(u16, &str); 26] = [
     (0x010E, "a boot partition is held until the power cycles"),
     (0x011E, "the boot partition is locked"),
     (0x0701, "this is no frame line"),
-    (0x0702, "there is no such kind: kinds are 01 to 0D"),
+    (0x0702, "there is no such kind: kinds are 01 to 0E"),
     (0x0703, "the line is too short or too long for its kind"),
     (0x0704, "a KeyUID has 1 to 16 bytes"),
     (0x0705, "the room has numbers already"),
@@ -52,6 +52,7 @@ const PLAIN: [(u16, &str); 26] = [
     (0x070D, "the mark store handed in has the wrong length"),
     (0x070E, "the state handed in is broken"),
     (0x070F, "the output handed in is too short"),
+    (0x0710, "the wrapped key cannot be opened"),
     (0x0716, "these bytes are no discovery response"),
     (0x0717, "this is no message that brings a key to this number"),
     (0x0718, "the message names its key with no bytes, or with more than 16"),

@@ -31,6 +31,9 @@ fn frame_words(frame: &Frame) -> String {
         Frame::Load { place, name } => {
             format!("load {} under {}", names::shown(name), place_words(place))
         }
+        Frame::WrappedLoad { place, name } => {
+            format!("load {}, wrapped, under {}", names::shown(name), place_words(place))
+        }
         Frame::Replace { place, old, new } => {
             let (old, new) = (names::shown(old), names::shown(new));
             format!("replace {old} by {new} under {}", place_words(place))

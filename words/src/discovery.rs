@@ -18,12 +18,14 @@ pub fn told(response: &[u8]) -> String {
 fn fields(feature: &[u8]) -> String {
     let yes = |bit: bool| if bit { "yes" } else { "no" };
     format!(
-        "{} numbers for all rooms, up to {} a room, KeyUIDs of up to {} bytes; notices a wrong key: {}; takes KMIP messages: {}",
+        "{} numbers for all rooms, up to {} a room, KeyUIDs of up to {} bytes; \
+         notices a wrong key: {}; takes KMIP messages: {}; takes wrapped keys: {}",
         number(&feature[36..40]),
         number(&feature[40..42]),
         number(&feature[17..19]),
         yes(feature[16] & 0x08 != 0),
         yes(feature[19] & 0x01 != 0),
+        yes(feature[21] & 0x01 != 0),
     )
 }
 

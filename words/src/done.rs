@@ -10,7 +10,9 @@ pub fn words(asked: &Asked) -> String {
     let now = match frame {
         Frame::Manage { room, .. } => format!("room {room} has its numbers"),
         Frame::Release { room } => format!("room {room} has no numbers and no keys now"),
-        Frame::Load { name, .. } | Frame::Message { name: Some(name), .. } => {
+        Frame::Load { name, .. }
+        | Frame::WrappedLoad { name, .. }
+        | Frame::Message { name: Some(name), .. } => {
             format!("{} is loaded there", names::shown(name))
         }
         Frame::Message { name: None, .. } => "the key is loaded there".to_string(),

@@ -1,5 +1,5 @@
-//! What a line asks of the drive. A `Frame` has no room for a key or a message: what is said of a line is made of its
-//! `Frame`, so a key cannot get there.
+//! What a line asks of the drive. A `Frame` has no room for a key, wrapped or not, or a message: what is said of a line
+//! is made of its `Frame`, so a key cannot get there.
 
 use std::cmp::Ordering;
 
@@ -12,6 +12,7 @@ use crate::names;
 pub const DIGITS: usize = 1024;
 
 const KEY: usize = 32;
+const WRAPPED: usize = 40;
 
 /// A namespace and a tag; to the typists a room and a number.
 #[derive(Clone, Copy, Debug, PartialEq, Eq)]
@@ -36,6 +37,7 @@ pub enum Frame {
     Manage { room: u32, count: u8 },
     Release { room: u32 },
     Load { place: Place, name: Vec<u8> },
+    WrappedLoad { place: Place, name: Vec<u8> },
     Replace { place: Place, old: Vec<u8>, new: Vec<u8> },
     ClearOne { place: Place },
     ClearAll { room: u32 },
@@ -88,7 +90,14 @@ fn frame(kind: Kind, bytes: &[u8]) -> Result<Frame, Spoilt> {
     Ok(match kind {
         Kind::Manage => Frame::Manage { room: room(bytes), count: bytes[2] },
         Kind::Release => Frame::Release { room: room(bytes) },
-        Kind::Load => load(bytes)?,
+        Kind::Load => {
+            let (place, name) = load(bytes, KEY)?;
+            Frame::Load { place, name }
+        }
+        Kind::WrappedLoad => {
+            let (place, name) = load(bytes, WRAPPED)?;
+            Frame::WrappedLoad { place, name }
+        }
         Kind::Replace => replace(bytes)?,
         Kind::ClearOne => Frame::ClearOne { place: place(bytes) },
         Kind::ClearAll => Frame::ClearAll { room: room(bytes) },
@@ -129,10 +138,11 @@ fn name_length(bytes: &[u8], at: usize, wrong: Spoilt) -> Result<usize, Spoilt> 
     }
 }
 
-fn load(bytes: &[u8]) -> Result<Frame, Spoilt> {
+/// Where a load goes and under which name, if so many bytes stand behind that.
+fn load(bytes: &[u8], behind: usize) -> Result<(Place, Vec<u8>), Spoilt> {
     let length = name_length(bytes, 4, Spoilt::NameLength)?;
-    exactly(bytes, 5 + length + KEY)?;
-    Ok(Frame::Load { place: place(bytes), name: bytes[5..5 + length].to_vec() })
+    exactly(bytes, 5 + length + behind)?;
+    Ok((place(bytes), bytes[5..5 + length].to_vec()))
 }
 
 fn replace(bytes: &[u8]) -> Result<Frame, Spoilt> {

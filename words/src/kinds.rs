@@ -18,10 +18,11 @@ pub enum Kind {
     Reset,
     Discovery,
     Message,
+    WrappedLoad,
 }
 
 /// From 01 on: the kind, what it is called, and its bytes where they are always as many.
-const KINDS: [(Kind, &str, Option<usize>); 13] = [
+const KINDS: [(Kind, &str, Option<usize>); 14] = [
     (Kind::Manage, "a line that gives a room its numbers", Some(3)),
     (Kind::Release, "a line that takes a room's numbers back", Some(2)),
     (Kind::Load, "a load", None),
@@ -35,6 +36,7 @@ const KINDS: [(Kind, &str, Option<usize>); 13] = [
     (Kind::Reset, "a reset", Some(2)),
     (Kind::Discovery, "a discovery", Some(1)),
     (Kind::Message, "a load by a message", None),
+    (Kind::WrappedLoad, "a load of a wrapped key", None),
 ];
 
 /// The kind that a line begins with, whether or not the rest of it can be read.
@@ -65,6 +67,7 @@ impl Kind {
             (_, Some(bytes)) => format!("{} digits", 2 * bytes),
             (Kind::Replace, None) => "76 digits and 2 for each byte of both KeyUIDs".to_string(),
             (Kind::Message, None) => "8 digits and those of the message".to_string(),
+            (Kind::WrappedLoad, None) => "90 digits and 2 for each byte of the KeyUID".to_string(),
             (_, None) => "74 digits and 2 for each byte of the KeyUID".to_string(),
         }
     }

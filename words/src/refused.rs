@@ -46,11 +46,11 @@ fn odd(line: &[u8]) -> String {
 
 fn unknown_kind(line: &[u8]) -> String {
     match shown::kind_digits(line) {
-        0 => "there is no such kind: kinds are 01 to 0D. Is it the rest of a broken line?"
+        0 => "there is no such kind: kinds are 01 to 0E. Is it the rest of a broken line?"
             .to_string(),
         open => {
             let kind = String::from_utf8_lossy(&line[..open]);
-            format!("there is no kind {kind}: kinds are 01 to 0D")
+            format!("there is no kind {kind}: kinds are 01 to 0E")
         }
     }
 }
@@ -78,6 +78,7 @@ fn frame_refused(frame: &Frame, number: u16) -> Option<String> {
         Frame::Manage { room, count } => manage(*room, *count, number),
         Frame::Release { room } | Frame::ClearAll { room } => in_room(*room, number),
         Frame::Load { place, name } => load(place, &names::shown(name), number),
+        Frame::WrappedLoad { place, name } => wrapped_load(place, name, number),
         Frame::Message { place, name } => message(place, name.as_deref(), number),
         Frame::Replace { place, old, new } => replace(place, old, new, number),
         Frame::ClearOne { place } => at_place(place, number),
@@ -129,6 +130,16 @@ fn load(place: &Place, name: &str, number: u16) -> Option<String> {
             "{name} is loaded somewhere with another key: one name stands for one key"
         )),
         _ => at_place(place, number),
+    }
+}
+
+fn wrapped_load(place: &Place, name: &[u8], number: u16) -> Option<String> {
+    match number {
+        0x0710 => Some(
+            "the wrapped key cannot be opened: a digit of it is wrong, or it was wrapped for another drive"
+                .to_string(),
+        ),
+        _ => load(place, &names::shown(name), number),
     }
 }
 

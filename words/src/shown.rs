@@ -27,7 +27,7 @@ pub fn shown(line: &[u8], asked: &Asked) -> String {
 /// How many digits of a long frame are shown; a short one is shown whole.
 fn open_digits(frame: &Frame) -> Option<usize> {
     let bytes = match frame {
-        Frame::Load { name, .. } => 5 + name.len(),
+        Frame::Load { name, .. } | Frame::WrappedLoad { name, .. } => 5 + name.len(),
         Frame::Replace { old, new, .. } => 6 + old.len() + new.len(),
         Frame::Message { .. } => 4,
         // The opcode; the rest is mostly zeros, and what counts of it is told in words.

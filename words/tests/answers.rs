@@ -57,6 +57,16 @@ fn load_by_hand() {
 }
 
 #[test]
+fn load_of_a_wrapped_key() {
+    let closed =
+        "the wrapped key cannot be opened: a digit of it is wrong, or it was wrapped for another drive";
+    let line = wrapped_load(1, 5, HERON, &WRAPPED);
+    refusals(&line, &LOADING);
+    refusals(&line, &[("0710", closed)]);
+    refusals(load(1, 5, HERON, &KEY), &[("0710", "the wrapped key cannot be opened")]);
+}
+
+#[test]
 fn load_by_a_message() {
     let invalid =
         "the message brings no key to number 5 of room 1: it is for another, damaged or incomplete";
@@ -169,11 +179,11 @@ fn boot_locks_told() {
 #[test]
 fn discovery_told() {
     let told = "done: the drive told what it is: 256 numbers for all rooms, up to 128 a room, KeyUIDs of up to 16 bytes; \
-                notices a wrong key: yes; takes KMIP messages: yes";
+                notices a wrong key: yes; takes KMIP messages: yes; takes wrapped keys: yes";
     let ours = response();
     assert_eq!(ours.len(), 224);
     assert_eq!(said("0C", &format!("0000{ours}")), told);
-    let less = ours.replace("0D001001", "F70010FE");
+    let less = ours.replace("0D0010010001", "F70010FE00FE");
     let told = told.replace("yes", "no");
     assert_eq!(said("0C", &format!("0000{less}")), told);
     let other = ours.replace("0305102C", "0306102C");
@@ -216,7 +226,7 @@ fn numbers() -> Vec<&'static str> {
     let table = readme.split("| Answer | In plain words |").nth(1).expect("the table of answers");
     let rows = table.lines().skip(2).take_while(|row| row.starts_with('|'));
     let numbers: Vec<_> = rows.map(|row| &row[2..6]).collect();
-    assert!(numbers.len() >= 27 && numbers[0] == "0000");
+    assert!(numbers.len() >= 28 && numbers[0] == "0000");
     numbers[1..].to_vec()
 }
 

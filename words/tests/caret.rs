@@ -184,7 +184,7 @@ fn no_caret_without_a_place() {
 #[test]
 fn what_a_bad_line_would_have_been() {
     assert_eq!(asked("0B0x"), "nothing that can be read; by its first two digits a reset");
-    assert_eq!(asked("0E0x"), "nothing that can be read");
+    assert_eq!(asked("0F0x"), "nothing that can be read");
     assert_eq!(asked("1B0x"), "nothing that can be read");
     assert_eq!(asked("x"), "nothing that can be read");
     assert_eq!(asked(""), "nothing that can be read");

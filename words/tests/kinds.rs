@@ -50,6 +50,28 @@ fn keys_are_loaded_replaced_and_cleared() {
 }
 
 #[test]
+fn wrapped_keys_are_loaded() {
+    tells(
+        &wrapped_load(1, 0, HERON, &WRAPPED),
+        "0E010000054845524F4E..",
+        "load HERON, wrapped, under number 0 of room 1",
+    );
+    tells(
+        &wrapped_load(4, 300, LONGEST, &WRAPPED),
+        "0E042C01105349585445454E2D42595445532D3136..",
+        "load SIXTEEN-BYTES-16, wrapped, under number 300 of room 4",
+    );
+}
+
+/// A bare key in the wrapped key's place, or a wrapped key in a bare one's: nothing of it is shown.
+#[test]
+fn a_key_in_the_wrong_kind_of_load() {
+    let bare = wrapped_load(1, 0, HERON, &KEY);
+    tells(&bare, "0E..", "a load of a wrapped key that cannot be read");
+    tells(&load(1, 0, HERON, &WRAPPED), "03..", "a load that cannot be read");
+}
+
+#[test]
 fn names_are_shown_so_that_two_never_look_the_same() {
     let named = |name: &[u8]| asked(load(1, 0, name, &KEY));
     assert_eq!(named(b"AA"), "load AA under number 0 of room 1");
@@ -198,10 +220,11 @@ fn kinds_have_their_numbers() {
     assert_eq!(first(0x04), Some(Kind::Replace));
     assert_eq!(first(0x07), Some(Kind::Io));
     assert_eq!(first(0x0D), Some(Kind::Message));
-    for byte in 0x01..=0x0D {
+    assert_eq!(first(0x0E), Some(Kind::WrappedLoad));
+    for byte in 0x01..=0x0E {
         assert_eq!(first(byte).map(|kind| kind as u8 + 1), Some(byte));
     }
-    for byte in (0x0E..=0xFF).chain([0x00]) {
+    for byte in (0x0F..=0xFF).chain([0x00]) {
         assert_eq!(first(byte), None);
     }
 }
@@ -212,7 +235,7 @@ fn every_kind_of_the_rules_is_known() {
     let rules = include_str!("../../docs/RULES.md");
     let table = rules.split("| Kind | Frame |").nth(1).expect("the table of frames");
     let rows: Vec<_> = table.lines().skip(2).take_while(|row| row.starts_with('|')).collect();
-    assert_eq!(rows.len(), 13);
+    assert_eq!(rows.len(), 14);
     for row in rows {
         let cells: Vec<_> = row.split('|').map(str::trim).collect();
         let byte = u8::from_str_radix(cells[1].trim_matches('`'), 16).expect("a kind");

@@ -6,7 +6,7 @@ use typist::*;
 
 const ROUNDS: usize = 2000;
 
-const ANSWERS: [&str; 18] = [
+const ANSWERS: [&str; 19] = [
     "0000",
     "0002",
     "000B",
@@ -21,13 +21,14 @@ const ANSWERS: [&str; 18] = [
     "070A",
     "070B",
     "070C",
+    "0710",
     "0717",
     "0718",
     "0719",
     "000012000000",
 ];
 
-/// A key with its 64 digits known, and another for the same line.
+/// A key with its digits known, and another for the same line.
 struct Line {
     text: String,
     other: String,
@@ -42,16 +43,18 @@ fn name(dice: &mut Dice) -> Vec<u8> {
     }
 }
 
-/// A load, a replace or a load by a message, with two keys.
+/// A load, a replace, a load by a message or one of a wrapped key, with two keys.
 fn line(dice: &mut Dice) -> Line {
-    let (key, other) = (dice.bytes(32), dice.bytes(32));
+    let form = dice.below(4);
+    let bytes = if form == 3 { WRAPPED.len() } else { KEY.len() };
+    let (key, other) = (dice.bytes(bytes), dice.bytes(bytes));
     let (room, number) = (dice.below(6) as u8, dice.below(200) as u16);
     let (old, new) = (name(dice), name(dice));
-    let form = dice.below(3);
     let with = |key: &[u8]| match form {
         0 => load(room, number, &new, key),
         1 => replace(room, number, &old, &new, key),
-        _ => message_load(room, number, &new, key),
+        2 => message_load(room, number, &new, key),
+        _ => wrapped_load(room, number, &new, key),
     };
     Line { text: with(&key), other: with(&other), key: hex(&key) }
 }
@@ -179,6 +182,8 @@ fn a_load_of_a_wrong_length() {
         let bytes = 5 + dice.below(text.len() / 2 - 5);
         assert_eq!(rows(&text[..2 * bytes], "0703")[0], "03..");
         assert_eq!(rows(text.clone() + &text[..2 * bytes], "0703")[0], "03..");
+        let bare = wrapped_load(1, 0, &name(&mut dice), &dice.bytes(32));
+        assert_eq!(rows(bare, "0703")[0], "0E..");
     }
 }
 

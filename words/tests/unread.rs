@@ -59,6 +59,24 @@ fn lengths_of_loads() {
 }
 
 #[test]
+fn lengths_of_wrapped_loads() {
+    let whole = wrapped_load(1, 0, HERON, &WRAPPED);
+    let asked = "a load of a wrapped key that cannot be read";
+    let why = |how: &str, digits: usize| {
+        let should = "a load of a wrapped key has 90 digits and 2 for each byte of the KeyUID";
+        format!("the line is too {how} with {digits} digits: {should}")
+    };
+    tells(&whole[..98], "0703", asked, &why("short", 98));
+    tells(&(whole.clone() + "11"), "0703", asked, &why("long", 102));
+    tells(&wrapped_load(1, 0, HERON, &KEY), "0703", asked, &why("short", 84));
+    tells(&whole[..8], "0703", asked, &why("short", 8));
+    for length in ["00", "11", "FF"] {
+        let line = format!("{}{length}{}", &whole[..8], &whole[10..]);
+        tells(&line, "0704", asked, "the KeyUID's length is not 1 to 16");
+    }
+}
+
+#[test]
 fn lengths_of_replaces() {
     let whole = replace(1, 0, b"OTTER", HERON, &KEY);
     let asked = "a replace that cannot be read";
@@ -87,18 +105,18 @@ fn messages() {
 
 #[test]
 fn unknown_kinds() {
-    for kind in ["00", "0E", "0F"] {
-        let words = format!("there is no kind {kind}: kinds are 01 to 0D");
+    for kind in ["00", "0F"] {
+        let words = format!("there is no kind {kind}: kinds are 01 to 0E");
         tells(&format!("{kind}0100"), "0702", "nothing that the drive knows", &words);
     }
-    assert_eq!(rows("0E", "0702")[0], "0E");
+    assert_eq!(rows("0F", "0702")[0], "0F");
 }
 
 /// A line that does not begin with 0 may be the end of a key: not even its first digits are shown.
 #[test]
 fn the_rest_of_a_broken_line() {
     let words =
-        "0702   there is no such kind: kinds are 01 to 0D. Is it the rest of a broken line?";
+        "0702   there is no such kind: kinds are 01 to 0E. Is it the rest of a broken line?";
     for line in [hex(&KEY), "10".to_string(), "FF01".to_string()] {
         assert_eq!(rows(line, "0702"), ["..", "asked  nothing that the drive knows", words]);
     }
@@ -119,5 +137,5 @@ fn answers_of_other_lines() {
     let long = "the line is too short or too long for its kind";
     assert_eq!(said(load(1, 0, HERON, &KEY), "0703"), long);
     assert_eq!(said("FF", "0703"), long);
-    assert_eq!(said("x", "0702"), "there is no such kind: kinds are 01 to 0D");
+    assert_eq!(said("x", "0702"), "there is no such kind: kinds are 01 to 0E");
 }

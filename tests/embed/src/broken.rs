@@ -3,15 +3,17 @@
 
 use model::discovery::read;
 use model::messages::padding;
-use model::numbers::{MARK, NAMESPACES, ROOM, SLOT};
+use model::numbers::{KEK, KEY, MARK, NAMESPACES, PROGRAM_KEK, ROOM, SLOT, WRAPPED};
+use model::wrap::{backward, wrap, wrap_behind, INTEGRITY};
 use model::{kmip, status};
 
 use crate::arena::{Arena, Lengths, Lent};
-use crate::hostile::{from_digits, to_digits, DIGITS};
+use crate::hostile::{from_digits, to_digits, DIGITS, KEK_AT};
 use crate::messages::FRAME_HEAD;
 use crate::oracle::{Function, Outcome};
 use crate::places::PLACES;
 use crate::responses::*;
+use crate::wrapper::Work;
 
 #[derive(Clone, Copy)]
 pub enum Rule {
@@ -54,6 +56,20 @@ pub enum Rule {
     PlaceHighFirst,
     /// Of the place the low byte counts.
     PlaceByte,
+    /// A drive starts with the program's key-encryption key, whatever was given.
+    StartKek,
+    /// A wrapped key is opened with the program's key-encryption key, whatever the image has.
+    WrappedKek,
+    /// Of a wrapped key's integrity value the first four bytes count.
+    WrappedHalf,
+    /// 07 09 comes before 07 10.
+    WrappedLate,
+    /// What stands before a key is wrapped in the integrity value's place.
+    WrapFirst,
+    /// The first eight bytes of a key that was opened are zero.
+    UnwrapValue,
+    /// What does not open is left as it was.
+    UnwrapLeft,
 }
 
 /// Where a message has the last byte of its minor version.
@@ -87,6 +103,13 @@ impl Rule {
             "odd-first" => Rule::OddFirst,
             "place-high-first" => Rule::PlaceHighFirst,
             "place-byte" => Rule::PlaceByte,
+            "start-kek" => Rule::StartKek,
+            "wrapped-kek" => Rule::WrappedKek,
+            "wrapped-half" => Rule::WrappedHalf,
+            "wrapped-late" => Rule::WrappedLate,
+            "wrap-first" => Rule::WrapFirst,
+            "unwrap-value" => Rule::UnwrapValue,
+            "unwrap-left" => Rule::UnwrapLeft,
             _ => return None,
         })
     }
@@ -125,6 +148,49 @@ impl Rule {
             }
             Rule::NoReason if met(status::LINE) => outcome.written = 5,
             _ if met(status::LINE) => self.spoil_fault(arena.lend(lengths)),
+            _ => self.spoil_wrapped(function, arena.lend(lengths), outcome),
+        }
+    }
+
+    /// The rules of wrapped loads, and of the key that opens them.
+    fn spoil_wrapped(self, function: Function, lent: Lent, outcome: &mut Outcome) {
+        let given = outcome.number;
+        let carried = function == Function::Line && lent.text.starts_with(b"0E");
+        let met = |number: u16| carried && given == number;
+        match self {
+            Rule::StartKek if function == Function::Start && given == status::DONE => {
+                lent.image[KEK_AT..].copy_from_slice(&PROGRAM_KEK);
+            }
+            Rule::WrappedKek if met(status::DONE) && lent.image[KEK_AT..] != PROGRAM_KEK => {
+                outcome.number = status::INTEGRITY;
+            }
+            Rule::WrappedHalf if met(status::INTEGRITY) => {
+                outcome.number = other_wrapped(lent, mend_half);
+            }
+            Rule::WrappedLate if met(status::INTEGRITY) => {
+                let opened = other_wrapped(lent, |kek, _| wrap(kek, &[0; KEY]));
+                outcome.number = if opened == status::OCCUPIED { opened } else { given };
+            }
+            _ => {}
+        }
+    }
+
+    /// Makes what the model made of a key that of an office with the wrong rule.
+    pub fn spoil_work(
+        self,
+        work: Work,
+        kek: &[u8; KEK],
+        before: &[u8; WRAPPED],
+        number: u16,
+        after: &mut [u8; WRAPPED],
+    ) {
+        let first = u64::from_be_bytes(*before.first_chunk().expect("eight bytes"));
+        match (self, work, number) {
+            (Rule::WrapFirst, Work::Wrap, _) => {
+                *after = wrap_behind(kek, first, before.last_chunk().expect("a key"));
+            }
+            (Rule::UnwrapValue, Work::Unwrap, status::DONE) => after[..8].fill(0),
+            (Rule::UnwrapLeft, Work::Unwrap, status::INTEGRITY) => *after = *before,
             _ => {}
         }
     }
@@ -203,8 +269,33 @@ fn first_eight(lent: Lent) -> u16 {
     Function::Line.by_model(cut).number
 }
 
-/// The answer to a frame of kind 0D that is read as another. The drive stays as it is.
-fn other_frame(lent: Lent, misread: fn(&mut [u8])) -> u16 {
+/// The answer to a line of kind 0E whose wrapped key is taken for another.
+fn other_wrapped(
+    lent: Lent,
+    misread: impl FnOnce(&[u8; KEK], &[u8; WRAPPED]) -> [u8; WRAPPED],
+) -> u16 {
+    let kek = *lent.image.last_chunk().expect("a key-encryption key");
+    other_frame(lent, |frame| {
+        let wrapped = frame.last_chunk_mut().expect("a wrapped key");
+        *wrapped = misread(&kek, wrapped);
+    })
+}
+
+/// The wrapped key itself; but if the integrity value's first half comes out, one of the same key
+/// that opens.
+fn mend_half(kek: &[u8; KEK], wrapped: &[u8; WRAPPED]) -> [u8; WRAPPED] {
+    let mut halves: Vec<u64> =
+        wrapped.as_chunks().0.iter().map(|&half| u64::from_be_bytes(half)).collect();
+    backward(kek, &mut halves);
+    if halves[0] >> 32 != INTEGRITY >> 32 {
+        return *wrapped;
+    }
+    let key: Vec<u8> = halves[1..].iter().flat_map(|half| half.to_be_bytes()).collect();
+    wrap(kek, &key.try_into().expect("a key"))
+}
+
+/// The answer to a frame that is read as another. The drive stays as it is.
+fn other_frame(lent: Lent, misread: impl FnOnce(&mut [u8])) -> u16 {
     let mut frame = from_digits(lent.text).expect("a frame");
     misread(&mut frame);
     let mut line = Vec::new();

@@ -5,7 +5,9 @@ use model::numbers::{DISCOVERY_ROOM, IMAGE, STORE};
 use model::status;
 
 use crate::arena::Lengths;
-use crate::hostile::{damage_image, damage_line, damage_marks, random_state, to_digits};
+use crate::hostile::{
+    damage_image, damage_line, damage_marks, random_kek, random_state, to_digits,
+};
 use crate::oracle::{Function, Outcome};
 use crate::pair::{Difference, Pair};
 use crate::universe::frame;
@@ -61,8 +63,8 @@ impl Host {
         }
         let image = if self.rng.once_in(4) { self.wrong(IMAGE) } else { IMAGE };
         let marks = if self.rng.once_in(4) { self.wrong(STORE) } else { STORE };
-        pair.call(Function::Start, Lengths { image, marks, text: 0, out: 0 })?;
-        pair.call(Function::Start, Lengths::right(0, 0)).map(|_| ())
+        pair.start(image, marks, &random_kek(&mut self.rng))?;
+        pair.start(IMAGE, STORE, &random_kek(&mut self.rng)).map(|_| ())
     }
 
     pub fn call(

@@ -2,7 +2,9 @@
 
 use embed::Rng;
 use model::messages::*;
-use model::numbers::{BLOCKS, FRAME, HEAD, IMAGE, MARK, NAMESPACES, POOL, REPLACE, SLOT, TAGS};
+use model::numbers::{
+    BLOCKS, FRAME, HEAD, IMAGE, KEK, MARK, NAMESPACES, POOL, PROGRAM_KEK, REPLACE, SLOT, TAGS,
+};
 use model::ttlv::Node;
 
 use crate::messages::others;
@@ -11,6 +13,8 @@ use crate::universe::{key, key_uid};
 pub const DIGITS: &[u8] = b"0123456789ABCDEF";
 /// The longest line that is made here.
 pub const LONGEST: usize = 4 * FRAME;
+/// Where an image has its key-encryption key.
+pub const KEK_AT: usize = IMAGE - KEK;
 
 pub fn to_digits(frame: &[u8], line: &mut Vec<u8>) {
     line.clear();
@@ -122,16 +126,28 @@ fn unknown(rng: &mut Rng) -> Node {
     nested(rng.below(8), item)
 }
 
-/// A sound image and any marks, mostly of the universe's KeyUIDs.
+/// Any, the program's, or one byte again and again.
+pub fn random_kek(rng: &mut Rng) -> [u8; KEK] {
+    let mut kek = [rng.byte(); KEK];
+    match rng.below(4) {
+        0 => {}
+        1 => kek = PROGRAM_KEK,
+        _ => rng.fill(&mut kek),
+    }
+    kek
+}
+
+/// A sound image and any marks, mostly of the universe's KeyUIDs; any key-encryption key.
 pub fn random_state(rng: &mut Rng, image: &mut [u8], marks: &mut [u8]) {
     image.fill(0);
+    image[KEK_AT..].copy_from_slice(&random_kek(rng));
     random_counts(rng, &mut image[..NAMESPACES]);
     // With most slots loaded, most KeyUIDs have two keys.
     let turns = rng.pick(&[1, 4, 16]);
     for lock in &mut image[NAMESPACES..NAMESPACES + 2] {
         *lock = rng.pick(&[1, 2, 3]);
     }
-    let (head, slots) = image.split_at_mut(NAMESPACES + 2);
+    let (head, slots) = image[..KEK_AT].split_at_mut(NAMESPACES + 2);
     for (count, slots) in head.iter().zip(slots.chunks_exact_mut(TAGS * SLOT)) {
         let allocated = &mut slots[..usize::from(*count) * SLOT];
         for slot in allocated.chunks_exact_mut(SLOT) {
@@ -194,13 +210,15 @@ fn random_mark(rng: &mut Rng, mark: &mut [u8]) {
     }
 }
 
-/// A place in an image and a value for it; mostly where soundness looks.
+/// A place in an image and a value for it; mostly where soundness looks, or in the key-encryption
+/// key.
 pub fn damage_image(rng: &mut Rng, image: &mut [u8]) {
     let slot = damaged_slot(rng, image);
-    let at = match rng.below(4) {
+    let at = match rng.below(5) {
         0 => rng.below(NAMESPACES + 2),
         1 => slot,
         2 => slot + rng.below(HEAD),
+        3 => KEK_AT + rng.below(KEK),
         _ => rng.below(IMAGE),
     };
     image[at] = match rng.below(4) {

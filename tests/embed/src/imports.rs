@@ -2,7 +2,6 @@
 //! in each way that `messages` and `profile` know.
 
 use model::kmip;
-use model::lines::message_frame;
 use model::messages::all_changed;
 use model::numbers::{FRAME, KEY_UID};
 
@@ -12,11 +11,12 @@ use crate::office::{Done, Load, Office, KEY_BYTES, TAGS_EACH, UID};
 use crate::profile::*;
 
 /// Of namespaces and of tags those there are, those there are not, and the ends.
-const NAMESPACES: [u8; 10] = [0, 1, 2, 3, 4, 5, 127, 128, 254, 255];
-const TAGS: [u16; 14] = [0, 1, 2, 62, 63, 64, 127, 128, 255, 256, 0x3F00, 0x7FFF, 0x8000, 0xFFFF];
+pub const NAMESPACES: [u8; 10] = [0, 1, 2, 3, 4, 5, 127, 128, 254, 255];
+pub const TAGS: [u16; 14] =
+    [0, 1, 2, 62, 63, 64, 127, 128, 255, 256, 0x3F00, 0x7FFF, 0x8000, 0xFFFF];
 
 /// Empty slots, and the lengths of the KeyUIDs that go there.
-const EMPTY: [(u8, u16, usize); 4] =
+pub const EMPTY: [(u8, u16, usize); 4] =
     [(1, 0, 1), (2, 1, 8), (3, 62, 9), (4, TAGS_EACH as u16 - 1, KEY_UID)];
 
 impl Office {
@@ -26,8 +26,9 @@ impl Office {
         for (namespace, tag, length) in EMPTY {
             let load = Load { namespace, tag, uid: &UID[..length], key: &KEY_BYTES };
             let message = load.message();
-            self.is_taken(&message, &load)?;
-            self.cuts(&message_frame(namespace, tag, &message))?;
+            let line = load.by_message(&message);
+            self.is_taken(&line, &load)?;
+            self.cuts(&line)?;
             for changed in changed(&message, namespace, tag) {
                 self.send(namespace, tag, &changed)?;
             }
@@ -52,9 +53,10 @@ impl Office {
         for (namespace, tag) in NAMESPACES.into_iter().flat_map(|one| TAGS.map(|two| (one, two))) {
             for uid in (0..=UID.len()).map(|length| &UID[..length]) {
                 let load = Load { namespace, tag, uid, key: &KEY_BYTES };
+                let line = load.by_message(&load.message());
                 match uid.len() {
-                    1..=KEY_UID => self.does_as_load(&load.message(), &load)?,
-                    _ => self.send(namespace, tag, &load.message())?,
+                    1..=KEY_UID => self.does_as_load(&line, &load)?,
+                    _ => self.send_cut(&line, line.len())?,
                 };
             }
         }
@@ -77,7 +79,7 @@ impl Office {
     }
 
     /// Cut at each digit, and with digits behind it up to past the longest line.
-    fn cuts(&mut self, line: &str) -> Done {
+    pub fn cuts(&mut self, line: &str) -> Done {
         for digit in ["0", "4", "F"] {
             let longest = line.to_string() + &digit.repeat(2 * FRAME + 8 - line.len());
             for length in 0..=longest.len() {

@@ -1,13 +1,14 @@
-//! The key office and a drive: messages written and sent, each from a state that has room for it.
+//! The key office and a drive: messages written and sent, wrapped keys carried, each from a state
+//! that has room for it.
 
 use embed::Rng;
 use model::lines::*;
-use model::numbers::{KEY, NAMESPACES, ROOM, STORE};
+use model::numbers::{KEK, KEY, NAMESPACES, PROGRAM_KEK, ROOM, STORE};
 use model::{kmip, status, Drive};
 
 use crate::arena::Lengths;
 use crate::broken::Rule;
-use crate::hostile::{to_digits, LONGEST};
+use crate::hostile::{to_digits, KEK_AT, LONGEST};
 use crate::oracle::Function;
 use crate::pair::{Difference, Pair, State};
 use crate::tally::Tally;
@@ -43,6 +44,16 @@ pub struct Load<'a> {
 impl Load<'_> {
     pub fn message(&self) -> Vec<u8> {
         kmip::message(self.namespace, self.tag, self.uid, self.key)
+    }
+
+    /// The line that brings a message to the load's place.
+    pub fn by_message(&self, message: &[u8]) -> String {
+        message_frame(self.namespace, self.tag, message)
+    }
+
+    /// The line of kind 0E with these bytes for the wrapped key.
+    pub fn by_courier(&self, wrapped: &[u8]) -> String {
+        wrapped_frame(self.namespace, self.tag, &hex(self.uid), wrapped)
     }
 }
 
@@ -85,27 +96,31 @@ impl Office {
         self.answer(length)
     }
 
+    /// The key-encryption key of the drive from now on.
+    pub fn agree_on(&mut self, kek: &[u8; KEK]) {
+        self.ready.image[KEK_AT..].copy_from_slice(kek);
+    }
+
     fn answer(&mut self, length: usize) -> Result<u16, Difference> {
         self.pair.call(Function::Line, Lengths::right(length, ROOM)).map(|outcome| outcome.number)
     }
 
-    /// A message must do what a load of kind 03 with the same KeyUID and key does.
-    pub fn does_as_load(&mut self, message: &[u8], load: &Load) -> Result<u16, Difference> {
-        let line = load_key(load.namespace, load.tag, &hex(load.uid), load.key);
-        let by_message = (self.send(load.namespace, load.tag, message)?, self.pair.save());
-        let by_load = (self.send_cut(&line, line.len())?, self.pair.save());
-        if by_message == by_load {
+    /// A line of kind 0D or 0E must do what a load of kind 03 with the same KeyUID and key does.
+    pub fn does_as_load(&mut self, line: &str, load: &Load) -> Result<u16, Difference> {
+        let bare = load_key(load.namespace, load.tag, &hex(load.uid), load.key);
+        let by_line = (self.send_cut(line, line.len())?, self.pair.save());
+        let by_load = (self.send_cut(&bare, bare.len())?, self.pair.save());
+        if by_line == by_load {
             return Ok(by_load.0);
         }
-        let numbers = [by_message.0, by_load.0].map(|number| format!("{number:04X}"));
-        let told = format!("a message answered {} and its load {}", numbers[0], numbers[1]);
-        let message = hex(message);
-        Err(Difference(format!("{told}, both drives alike:\n  {message}\n  {line}")))
+        let numbers = [by_line.0, by_load.0].map(|number| format!("{number:04X}"));
+        let told = format!("a line answered {} and its load {}", numbers[0], numbers[1]);
+        Err(Difference(format!("{told}, both drives alike:\n  {line}\n  {bare}")))
     }
 
     /// The same, and the load is accepted.
-    pub fn is_taken(&mut self, message: &[u8], load: &Load) -> Done {
-        match self.does_as_load(message, load)? {
+    pub fn is_taken(&mut self, line: &str, load: &Load) -> Done {
+        match self.does_as_load(line, load)? {
             status::DONE => Ok(()),
             number => Err(Difference(format!("a load answered {number:04X}, both drives alike"))),
         }
@@ -116,7 +131,7 @@ impl Office {
 /// another key, and tag 1 of namespace 3 under three, with the same.
 fn ready() -> State {
     let mut marks = vec![0; STORE];
-    let (_, mut drive) = Drive::start(&mut marks);
+    let (_, mut drive) = Drive::start(&PROGRAM_KEK, &mut marks);
     let managed = (1..=NAMESPACES as u8).map(|namespace| manage(namespace, TAGS_EACH));
     let last = u16::from(TAGS_EACH) - 1;
     let loaded = [load(1, last, &hex(&UID[..2]), !KEY_BYTE), load(3, 1, &hex(&UID[..3]), KEY_BYTE)];

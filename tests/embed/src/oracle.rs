@@ -2,13 +2,14 @@
 //! model's own.
 
 use embed::proved;
-use model::numbers::{IMAGE, STORE};
+use model::numbers::{IMAGE, KEK, STORE};
 use model::{room, session_room, status, Drive};
 
 use crate::arena::Lent;
 
 #[derive(Clone, Copy, Debug, PartialEq, Eq)]
 pub enum Function {
+    /// The text is its key-encryption key.
     Start,
     Line,
     Session,
@@ -26,7 +27,7 @@ impl Function {
     pub fn by_proved(self, lent: Lent) -> Outcome {
         let Lent { image, marks, text, out } = lent;
         match self {
-            Function::Start => Outcome::of(proved::start(image, marks), 0, 0),
+            Function::Start => Outcome::of(proved::start(image, marks, kek(text)), 0, 0),
             Function::Line => {
                 let (number, written) = proved::line(image, marks, text, out);
                 Outcome::of(number, 0, written)
@@ -69,12 +70,16 @@ pub fn lines(text: &[u8]) -> usize {
     text.split_inclusive(|&byte| byte == b'\n').count()
 }
 
+fn kek(text: &[u8]) -> &[u8; KEK] {
+    text.try_into().expect("a key-encryption key")
+}
+
 fn start(lent: Lent) -> Outcome {
     if lent.image.len() != IMAGE {
         let number = if lent.marks.len() != STORE { status::STORE } else { status::UNSOUND };
         return Outcome::of(number, 0, 0);
     }
-    let (number, drive) = Drive::start(lent.marks);
+    let (number, drive) = Drive::start(kek(lent.text), lent.marks);
     lent.image.copy_from_slice(&drive.to_image());
     Outcome::of(number, 0, 0)
 }

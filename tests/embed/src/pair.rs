@@ -1,7 +1,7 @@
 //! The proved drive and the model side by side: every call goes to both, each over its own memory,
 //! and afterwards the two must have told the same and hold the same.
 
-use model::numbers::{IMAGE, STORE};
+use model::numbers::{IMAGE, KEK, STORE};
 
 use crate::arena::{Arena, Lengths};
 use crate::broken::Rule;
@@ -53,6 +53,17 @@ impl Pair {
             Function::Session => self.tally.answers(text, out),
         }
         Ok(model)
+    }
+
+    /// Starts both drives, with an image and a store of these lengths.
+    pub fn start(
+        &mut self,
+        image: usize,
+        marks: usize,
+        kek: &[u8; KEK],
+    ) -> Result<Outcome, Difference> {
+        self.say(kek);
+        self.call(Function::Start, Lengths { image, marks, text: KEK, out: 0 })
     }
 
     /// Lays a line or a text ready for the next call.

@@ -1,10 +1,18 @@
-//! `include/tuffaleen.h` from Rust: what the header asks of a caller, slices have.
+//! `include/tuffaleen.h` from Rust: what the header asks of a caller, slices and arrays have.
+
+use model::numbers::{KEK, WRAPPED};
 
 /// What no count can be, so that one that a call leaves unset is seen.
 const UNSET: usize = usize::MAX;
 
 extern "C" {
-    fn tuffaleen_start(image: *mut u8, image_len: usize, marks: *mut u8, marks_len: usize) -> u16;
+    fn tuffaleen_start(
+        image: *mut u8,
+        image_len: usize,
+        marks: *mut u8,
+        marks_len: usize,
+        kek: *const u8,
+    ) -> u16;
 
     fn tuffaleen_line(
         image: *mut u8,
@@ -49,12 +57,24 @@ extern "C" {
         out_len: usize,
         written: *mut usize,
     ) -> u16;
+
+    fn tuffaleen_wrap(kek: *const u8, bytes: *mut u8);
+
+    fn tuffaleen_unwrap(kek: *const u8, bytes: *mut u8) -> u16;
 }
 
 /// The number.
-pub fn start(image: &mut [u8], marks: &mut [u8]) -> u16 {
-    // SAFETY: the slices are valid for their lengths and do not overlap.
-    unsafe { tuffaleen_start(image.as_mut_ptr(), image.len(), marks.as_mut_ptr(), marks.len()) }
+pub fn start(image: &mut [u8], marks: &mut [u8], kek: &[u8; KEK]) -> u16 {
+    // SAFETY: the slices are valid for their lengths, the array for 32 bytes, and none overlap.
+    unsafe {
+        tuffaleen_start(
+            image.as_mut_ptr(),
+            image.len(),
+            marks.as_mut_ptr(),
+            marks.len(),
+            kek.as_ptr(),
+        )
+    }
 }
 
 /// The number and the bytes written.
@@ -127,4 +147,15 @@ pub fn message(ns: u8, tag: u16, key_uid: &[u8], key: &[u8], out: &mut [u8]) -> 
         )
     };
     (number, written)
+}
+
+pub fn wrap(kek: &[u8; KEK], bytes: &mut [u8; WRAPPED]) {
+    // SAFETY: the arrays have 32 and 40 bytes and do not overlap.
+    unsafe { tuffaleen_wrap(kek.as_ptr(), bytes.as_mut_ptr()) }
+}
+
+/// The number.
+pub fn unwrap(kek: &[u8; KEK], bytes: &mut [u8; WRAPPED]) -> u16 {
+    // SAFETY: the arrays have 32 and 40 bytes and do not overlap.
+    unsafe { tuffaleen_unwrap(kek.as_ptr(), bytes.as_mut_ptr()) }
 }

@@ -2,7 +2,7 @@
 
 use embed::{proved, Rng};
 use model::discovery::{own, write};
-use model::numbers::{DISCOVERY_ROOM, IMAGE, STORE};
+use model::numbers::{DISCOVERY_ROOM, IMAGE, PROGRAM_KEK, STORE};
 
 use crate::broken::Rule;
 use crate::hostile::from_digits;
@@ -199,7 +199,7 @@ impl Reads {
 fn asked() -> Result<Vec<u8>, Difference> {
     let (mut image, mut marks) = ([0; IMAGE], [0; STORE]);
     let mut out = [0; DISCOVERY_ROOM];
-    proved::start(&mut image, &mut marks);
+    proved::start(&mut image, &mut marks, &PROGRAM_KEK);
     let (_, written) = proved::line(&mut image, &mut marks, b"0C", &mut out);
     let answer = out.get(..written).unwrap_or_default();
     let digits = answer.strip_prefix(b"0000").and_then(|answer| answer.strip_suffix(b"\n"));

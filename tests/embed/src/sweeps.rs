@@ -5,19 +5,22 @@
 
 use embed::Rng;
 use model::lines::*;
-use model::numbers::{BLOCKS, DISCOVERY_ROOM, FRAME, IMAGE, MARK, NAMESPACES, ROOM, STORE};
+use model::numbers::{
+    BLOCKS, DISCOVERY_ROOM, FRAME, IMAGE, MARK, NAMESPACES, PROGRAM_KEK, ROOM, STORE,
+};
 use model::{room, session_room, status, Drive};
 
 use crate::arena::Lengths;
 use crate::broken::Rule;
-use crate::hostile::random_state;
+use crate::hostile::{random_kek, random_state};
 use crate::oracle::Function;
 use crate::pair::{Difference, Pair, State};
 use crate::tally::Tally;
 
 const NEAR: usize = 64;
-/// The image of layout version 2, which had 32 slots for each namespace.
-const OLD_IMAGE: usize = 6278;
+/// The images of layout version 2, which had 32 slots for each namespace, and of 3, which had no
+/// key-encryption key.
+const OLD_IMAGES: [usize; 2] = [6278, 25_094];
 /// The store of layout version 1, whose marks had 9 bytes.
 const OLD_STORE: usize = 9216;
 
@@ -85,13 +88,14 @@ impl Sweeps {
     }
 
     fn starts(&mut self) -> Done {
-        for image in [0, 1, OLD_IMAGE, IMAGE - 1, IMAGE, IMAGE + 1, 2 * IMAGE] {
+        let images = [0, 1, IMAGE - 1, IMAGE, IMAGE + 1, 2 * IMAGE];
+        for image in images.into_iter().chain(OLD_IMAGES) {
             for marks in stores() {
                 self.wide.change(|image, marks| {
                     image.fill(0xEE);
                     marks.fill(0xEE);
                 });
-                self.wide.call(Function::Start, Lengths { image, marks, text: 0, out: 0 })?;
+                self.wide.start(image, marks, &random_kek(&mut self.rng))?;
             }
         }
         Ok(())
@@ -100,7 +104,7 @@ impl Sweeps {
     /// Lines and sessions, with too little room and with enough.
     fn lengths(&mut self) -> Done {
         self.wide.restore(&self.used);
-        let image = near(IMAGE).chain([OLD_IMAGE]).map(|image| (image, STORE));
+        let image = near(IMAGE).chain(OLD_IMAGES).map(|image| (image, STORE));
         let marks = stores().map(|marks| (IMAGE, marks));
         let both = stores().map(|marks| (IMAGE + 1, marks));
         for (image, marks) in image.chain(marks).chain(both) {
@@ -119,7 +123,8 @@ impl Sweeps {
     }
 
     fn outputs(&mut self) -> Done {
-        for line in ["09", "0B00", "", "010102", "0G", "0B0", "0C", "0c", "0C00", "0D", "0E"] {
+        for line in ["09", "0B00", "", "010102", "0G", "0B0", "0C", "0c", "0C00", "0D", "0E", "0F"]
+        {
             for out in 0..DISCOVERY_ROOM + 2 * NEAR {
                 self.pair.restore(&self.used);
                 say(&mut self.pair, line, out)?;
@@ -183,7 +188,7 @@ impl Sweeps {
 
     /// Frames of each kind, and of the kinds around, of every length up to past the longest line.
     fn lines_of_every_length(&mut self) -> Done {
-        for kind in (0x00..=0x0E).chain([0xFF]) {
+        for kind in (0x00..=0x0F).chain([0xFF]) {
             let line = hex(&[kind]) + &"01".repeat(FRAME + 2);
             for length in 0..=line.len() {
                 let out = room(&line.as_bytes()[..length]);
@@ -230,7 +235,7 @@ fn stores() -> impl Iterator<Item = usize> {
 /// namespace 1 have the same first eight bytes and the same length.
 fn used() -> State {
     let mut marks = vec![0; STORE];
-    let (_, mut drive) = Drive::start(&mut marks);
+    let (_, mut drive) = Drive::start(&PROGRAM_KEK, &mut marks);
     let lines = [
         manage(1, 3),
         manage(4, 128),
@@ -249,7 +254,7 @@ fn used() -> State {
 }
 
 /// One of each kind, accepted by the used drive but for the boot write.
-fn frames() -> [String; 13] {
+fn frames() -> [String; 14] {
     [
         manage(3, 125),
         release(1),
@@ -264,5 +269,6 @@ fn frames() -> [String; 13] {
         power_cycle(),
         discovery(),
         message_load(4, 126, "AA", 0x33),
+        wrapped_load(4, 126, "AA", 0x33),
     ]
 }

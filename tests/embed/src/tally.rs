@@ -5,18 +5,20 @@ use model::status::*;
 
 use crate::oracle::Function;
 
-const COLUMNS: [&str; 6] = ["start", "line", "session", "in sessions", "discovery", "message"];
+const COLUMNS: [&str; 7] =
+    ["start", "line", "session", "in sessions", "discovery", "message", "unwrap"];
 const IN_SESSIONS: usize = 3;
 /// The function of a host.
 const READ: usize = 4;
-/// The function of a key office.
+/// The functions of a key office.
 const WRITE: usize = 5;
+const UNWRAP: usize = 6;
 
 /// Every number of the paper is below this.
 const LIMIT: usize = 0x0800;
 
 /// What a line can be answered with; then what refuses a call.
-const OF_LINES: [u16; 23] = [
+const OF_LINES: [u16; 24] = [
     DONE,
     OPCODE,
     FIELD,
@@ -38,17 +40,19 @@ const OF_LINES: [u16; 23] = [
     EMPTY,
     OLD_KEY_UID,
     OTHER_KEY,
+    INTEGRITY,
     MESSAGE,
     MESSAGE_KEY_UID,
 ];
 const OF_CALLS: [u16; 3] = [STORE, UNSOUND, OUTPUT];
 const OF_READS: [u16; 3] = [DONE, OUTPUT, DISCOVERY];
 const OF_WRITES: [u16; 4] = [DONE, OUTPUT, MESSAGE, MESSAGE_KEY_UID];
+const OF_UNWRAPS: [u16; 2] = [DONE, INTEGRITY];
 
 /// The answer to an accepted load.
 const TAKEN: &[u8] = b"0000\n";
 
-/// Of lines of the kinds 0C and 0D, of reads and of writes.
+/// Of lines of the kinds 0C, 0D and 0E, of reads, of writes and of wrapping.
 #[derive(Clone, Copy)]
 pub enum Event {
     /// The output was long enough for any other line.
@@ -65,9 +69,12 @@ pub enum Event {
     LongestLine,
     ShortMessage,
     LongMessage,
+    WrappedTaken,
+    WrappedTakenInSession,
+    Wrapped,
 }
 
-const EVENTS: [&str; 12] = [
+const EVENTS: [&str; 15] = [
     "line 0C, 13 to 228 bytes of output",
     "line of kind 0C, answer of 5 bytes",
     "line 0C, answer of 229 bytes",
@@ -80,6 +87,9 @@ const EVENTS: [&str; 12] = [
     "line of kind 0D and 1,024 digits, 0717",
     "message, 400 bytes written",
     "message, 408 bytes written",
+    "line of kind 0E, accepted",
+    "line of kind 0E in a session, accepted",
+    "key wrapped",
 ];
 
 /// Why a line is no frame line, by the reasons of 07 01 in their order; the last is besides counted as
@@ -122,6 +132,10 @@ impl Tally {
         }
     }
 
+    pub fn unwrap(&mut self, number: u16) {
+        self.counts[usize::from(number)][UNWRAP] += 1;
+    }
+
     pub fn event(&mut self, event: Event) {
         self.events[event as usize] += 1;
     }
@@ -144,6 +158,7 @@ impl Tally {
             DISCOVERY_ROOM => self.event(Event::LineAnswered),
             5 if line.starts_with(b"0C") => self.event(Event::LineRefused),
             5 if line.starts_with(b"0D") && answer == TAKEN => self.event(Event::MessageTaken),
+            5 if line.starts_with(b"0E") && answer == TAKEN => self.event(Event::WrappedTaken),
             5 if line.len() == 2 * FRAME && answer == b"0717\n" => self.event(Event::LongestLine),
             _ => {}
         }
@@ -162,6 +177,9 @@ impl Tally {
                 5 if line.starts_with(b"0C") => self.event(Event::RefusedInSession),
                 5 if line.starts_with(b"0D") && answer == TAKEN => {
                     self.event(Event::MessageTakenInSession);
+                }
+                5 if line.starts_with(b"0E") && answer == TAKEN => {
+                    self.event(Event::WrappedTakenInSession);
                 }
                 _ => {}
             }
@@ -205,8 +223,9 @@ impl Tally {
         let inside = OF_LINES.iter().map(|&number| (number, IN_SESSIONS));
         let read = OF_READS.map(|number| (number, READ));
         let write = OF_WRITES.map(|number| (number, WRITE));
+        let unwrap = OF_UNWRAPS.map(|number| (number, UNWRAP));
         let of_drive = start.into_iter().chain(line).chain(session).chain(inside);
-        let wanted = of_drive.chain(read).chain(write);
+        let wanted = of_drive.chain(read).chain(write).chain(unwrap);
         let numbers = wanted
             .filter(|&(number, column)| self.counts[usize::from(number)][column] == 0)
             .map(|(number, column)| format!("{number:04X} ({})", COLUMNS[column]));

@@ -2,7 +2,10 @@
 
 use embed::Rng;
 use model::kmip;
-use model::numbers::{COMMAND, FRAME, KEY, KEY_UID, NAMESPACES, POOL, REPLACE, SLOT, TAGS};
+use model::numbers::{
+    COMMAND, FRAME, KEK, KEY, KEY_UID, NAMESPACES, POOL, PROGRAM_KEK, REPLACE, SLOT, TAGS,
+};
+use model::wrap::{wrap, wrap_behind, INTEGRITY};
 
 use crate::hostile::damage_message;
 
@@ -32,20 +35,21 @@ const KEY_UIDS: [&[u8]; 19] = [
 const COUNTS: [u8; 16] = [1, 2, 2, 3, 4, 8, 32, 63, 64, 126, 127, 128, 128, 0, 129, 255];
 
 /// How often each kind comes, in turns of 256.
-const KINDS: [(u8, u8); 13] = [
+const KINDS: [(u8, u8); 14] = [
     (0x01, 14),
     (0x02, 2),
-    (0x03, 45),
-    (0x04, 36),
+    (0x03, 39),
+    (0x04, 34),
     (0x05, 16),
     (0x06, 2),
-    (0x07, 76),
+    (0x07, 66),
     (0x08, 16),
     (0x09, 6),
     (0x0A, 10),
     (0x0B, 3),
     (0x0C, 6),
-    (0x0D, 24),
+    (0x0D, 20),
+    (0x0E, 22),
 ];
 
 /// Writes a frame's bytes, likely for a drive with this image.
@@ -69,6 +73,7 @@ pub fn frame(rng: &mut Rng, image: &[u8], frame: &mut Vec<u8>) {
             frame.resize(2 + rng.below(most - 1), rng.byte());
         }
         0x0D => load_by_message(rng, image, frame),
+        0x0E => load_wrapped(rng, image, frame),
         _ => {}
     }
 }
@@ -182,6 +187,41 @@ fn load_by_message(rng: &mut Rng, image: &[u8], frame: &mut Vec<u8>) {
     frame.extend(message);
     // A line is read no further than that.
     frame.truncate(FRAME + 1);
+}
+
+fn load_wrapped(rng: &mut Rng, image: &[u8], frame: &mut Vec<u8>) {
+    put_place(frame, place(rng, image, false));
+    let new = key_uid(rng);
+    led_by_length(frame, new);
+    let kek = image.last_chunk().expect("a key-encryption key");
+    let key = key(rng, new);
+    frame.extend(wrapped(rng, kek, &key));
+}
+
+/// Half of the wrapped keys are; the others are nearly that.
+fn wrapped(rng: &mut Rng, kek: &[u8; KEK], key: &[u8; KEY]) -> Vec<u8> {
+    let mut wrapped = wrap(kek, key).to_vec();
+    match rng.below(16) {
+        0 => flip(rng, &mut wrapped),
+        1 => {
+            let mut other = *kek;
+            flip(rng, &mut other);
+            wrapped = wrap(&other, key).to_vec();
+        }
+        2 => wrapped = wrap(&PROGRAM_KEK, key).to_vec(),
+        3 => wrapped = wrap_behind(kek, INTEGRITY ^ 1 << rng.below(64), key).to_vec(),
+        4 => rng.fill(&mut wrapped),
+        5 => wrapped.rotate_left(8),
+        6 => wrapped = key.to_vec(),
+        7 => wrapped.resize(rng.pick(&[0, 8, 24, 39, 41, 48, 80]), rng.byte()),
+        _ => {}
+    }
+    wrapped
+}
+
+pub fn flip(rng: &mut Rng, bytes: &mut [u8]) {
+    let at = rng.below(bytes.len());
+    bytes[at] ^= 1 << rng.below(8);
 }
 
 /// Another place, which is likely to be taken for this.

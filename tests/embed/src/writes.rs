@@ -64,8 +64,8 @@ impl Office {
             return Ok(());
         };
         let Wanted { namespace, tag, uid, key, .. } = wanted;
-        let key = key.try_into().expect("a key");
-        self.does_as_load(&message, &Load { namespace, tag, uid, key }).map(|_| ())
+        let load = Load { namespace, tag, uid, key: key.try_into().expect("a key") };
+        self.does_as_load(&load.by_message(&message), &load).map(|_| ())
     }
 }
 

@@ -103,6 +103,10 @@ pub fn own() -> Fields {
             enabled: true,
             max_key_uid_length: KEY_UID as u16,
             kmip: true,
+            aes_kw: true,
+            aes_256_wrapping_key: true,
+            // The one that is there from the start: no host brings it.
+            key_encryption_keys: 1,
             key_tags: POOL as u32,
             key_tags_per_namespace: TAGS as u16,
             ..KeyPerIo::default()

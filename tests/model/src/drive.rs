@@ -1,7 +1,7 @@
 //! The drive's state: fresh, sound or not, and as an image.
 
 use crate::numbers::{
-    HEAD, IMAGE, KEYS, KEY_UID, LOCKED, NAMESPACES, POOL, SLOT, STORE, TAGS, UNLOCKED,
+    HEAD, IMAGE, KEK, KEYS, KEY_UID, LOCKED, NAMESPACES, POOL, SLOT, STORE, TAGS, UNLOCKED,
     UNTIL_POWER_CYCLE,
 };
 use crate::status;
@@ -15,22 +15,24 @@ pub struct Drive {
     /// 1 Write Unlocked, 2 Write Locked, 3 Write Locked Until Power Cycle.
     pub locks: [u8; 2],
     pub keys: [u8; KEYS],
+    /// What wrapped keys are opened with. No frame changes it.
+    pub kek: [u8; KEK],
 }
 
 static ZEROS: [u8; TAGS * SLOT] = [0; TAGS * SLOT];
 
 impl Drive {
-    pub fn fresh() -> Drive {
-        Drive { counts: [0; NAMESPACES], locks: [LOCKED; 2], keys: [0; KEYS] }
+    pub fn fresh(kek: &[u8; KEK]) -> Drive {
+        Drive { counts: [0; NAMESPACES], locks: [LOCKED; 2], keys: [0; KEYS], kek: *kek }
     }
 
     /// Zeroes the store of a fresh drive; another length than a store's gives 07 0D.
-    pub fn start(store: &mut [u8]) -> (u16, Drive) {
+    pub fn start(kek: &[u8; KEK], store: &mut [u8]) -> (u16, Drive) {
         if store.len() != STORE {
-            return (status::STORE, Drive::fresh());
+            return (status::STORE, Drive::fresh(kek));
         }
         store.fill(0);
-        (status::DONE, Drive::fresh())
+        (status::DONE, Drive::fresh(kek))
     }
 
     pub fn sound(&self) -> bool {
@@ -48,20 +50,24 @@ impl Drive {
     pub fn to_image(&self) -> [u8; IMAGE] {
         let mut image = [0; IMAGE];
         let (counts, rest) = image.split_at_mut(self.counts.len());
-        let (locks, keys) = rest.split_at_mut(self.locks.len());
+        let (locks, rest) = rest.split_at_mut(self.locks.len());
+        let (keys, kek) = rest.split_at_mut(self.keys.len());
         counts.copy_from_slice(&self.counts);
         locks.copy_from_slice(&self.locks);
         keys.copy_from_slice(&self.keys);
+        kek.copy_from_slice(&self.kek);
         image
     }
 
-    /// Any counts and keys, sound or not; None for another length or a lock byte outside 1 to 3.
+    /// Any counts and keys, sound or not, and any key-encryption key; None for another length or a
+    /// lock byte outside 1 to 3.
     pub fn from_image(image: &[u8]) -> Option<Drive> {
         let (&counts, rest) = image.split_first_chunk()?;
-        let (&locks, keys) = rest.split_first_chunk()?;
-        let keys = keys.try_into().ok()?;
+        let (&locks, rest) = rest.split_first_chunk()?;
+        let (&keys, kek) = rest.split_first_chunk()?;
+        let kek = kek.try_into().ok()?;
         let known = locks.iter().all(|lock| (UNLOCKED..=UNTIL_POWER_CYCLE).contains(lock));
-        known.then_some(Drive { counts, locks, keys })
+        known.then_some(Drive { counts, locks, keys, kek })
     }
 }
 

@@ -2,7 +2,7 @@
 //! 07 04, and what a message is refused with, 07 17 and 07 18.
 
 use crate::kmip;
-use crate::numbers::{COMMAND, FRAME, KEY, KEY_UID};
+use crate::numbers::{COMMAND, FRAME, KEY, KEY_UID, WRAPPED};
 use crate::status;
 
 /// A namespace number as a frame gives it, in range or not.
@@ -25,6 +25,8 @@ pub enum Frame<'a> {
     Release(Namespace),
     /// Of kind 03 or 0D.
     Load(Namespace, Tag, Material<'a>),
+    /// A KeyUID and its key, still wrapped.
+    WrappedLoad(Namespace, Tag, &'a [u8], &'a [u8; WRAPPED]),
     Replace(Namespace, Tag, &'a [u8], Material<'a>),
     ClearOne(Namespace, Tag),
     ClearAll(Namespace),
@@ -127,7 +129,8 @@ pub fn parse(bytes: &[u8]) -> Result<Frame<'_>, u16> {
         [0x0D, namespace, t0, t1, ref message @ ..] => {
             message_load(namespace, Tag::new(t0, t1), message)
         }
-        [0x01..=0x0D, ..] => Err(status::LENGTH),
+        [0x0E, ref fields @ ..] => wrapped_load(fields),
+        [0x01..=0x0E, ..] => Err(status::LENGTH),
         _ => Err(status::KIND),
     }
 }
@@ -137,6 +140,14 @@ fn load(fields: &[u8]) -> Result<Frame<'_>, u16> {
         return Err(status::LENGTH);
     };
     Ok(Frame::Load(namespace.into(), Tag::new(t0, t1), material(rest)?))
+}
+
+fn wrapped_load(fields: &[u8]) -> Result<Frame<'_>, u16> {
+    let &[namespace, t0, t1, ref rest @ ..] = fields else {
+        return Err(status::LENGTH);
+    };
+    let (uid, wrapped) = key_uid_then(rest)?;
+    Ok(Frame::WrappedLoad(namespace.into(), Tag::new(t0, t1), uid, wrapped))
 }
 
 /// The message says a second time which namespace and tag it is for.
@@ -154,9 +165,14 @@ fn replace(fields: &[u8]) -> Result<Frame<'_>, u16> {
 }
 
 fn material(bytes: &[u8]) -> Result<Material<'_>, u16> {
-    let (uid, key) = key_uid(bytes)?;
-    let key = key.try_into().map_err(|_| status::LENGTH)?;
+    let (uid, key) = key_uid_then(bytes)?;
     Ok(Material { uid, key })
+}
+
+/// A KeyUID and so many bytes behind it.
+fn key_uid_then<const N: usize>(bytes: &[u8]) -> Result<(&[u8], &[u8; N]), u16> {
+    let (uid, rest) = key_uid(bytes)?;
+    Ok((uid, rest.try_into().map_err(|_| status::LENGTH)?))
 }
 
 /// Splits a KeyUID, led by its length byte, from what follows it.

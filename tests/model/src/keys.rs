@@ -1,9 +1,10 @@
-//! Management and key slots: kinds 01 to 06.
+//! Management and key slots: kinds 01 to 06, and the loads of kinds 0D and 0E.
 
 use crate::drive::Drive;
 use crate::frame::{Material, Namespace, Tag};
-use crate::numbers::{BLOCKS, HEAD, MARK, NAMESPACES, POOL, SLOT, STORE, TAGS};
+use crate::numbers::{BLOCKS, HEAD, MARK, NAMESPACES, POOL, SLOT, STORE, TAGS, WRAPPED};
 use crate::status;
+use crate::wrap;
 
 impl Namespace {
     pub fn index(self) -> Result<usize, u16> {
@@ -51,10 +52,20 @@ impl Drive {
     ) -> Result<(), u16> {
         let index = self.managed(namespace)?;
         let at = self.slot_at(index, tag)?;
-        if self.keys[at] != 0 {
-            return Err(status::OCCUPIED);
-        }
-        self.put(at, material)
+        self.load_at(at, material)
+    }
+
+    pub(crate) fn wrapped_load(
+        &mut self,
+        namespace: Namespace,
+        tag: Tag,
+        uid: &[u8],
+        wrapped: &[u8; WRAPPED],
+    ) -> Result<(), u16> {
+        let index = self.managed(namespace)?;
+        let at = self.slot_at(index, tag)?;
+        let key = wrap::unwrap(&self.kek, wrapped).ok_or(status::INTEGRITY)?;
+        self.load_at(at, Material { uid, key: &key })
     }
 
     pub(crate) fn replace(
@@ -112,6 +123,13 @@ impl Drive {
     pub(crate) fn empty_slots(&mut self, index: usize) {
         let length = usize::from(self.counts[index]) * SLOT;
         self.keys[index * TAGS * SLOT..][..length].fill(0);
+    }
+
+    fn load_at(&mut self, at: usize, material: Material) -> Result<(), u16> {
+        if self.keys[at] != 0 {
+            return Err(status::OCCUPIED);
+        }
+        self.put(at, material)
     }
 
     fn put(&mut self, at: usize, material: Material) -> Result<(), u16> {

@@ -3,6 +3,7 @@
 //!
 //! It shares nothing with the proved code: where the two differ, one of them misread the paper.
 
+pub mod aes;
 mod boot;
 pub mod discovery;
 mod drive;
@@ -16,6 +17,7 @@ pub mod numbers;
 mod session;
 pub mod status;
 pub mod ttlv;
+pub mod wrap;
 
 pub use drive::Drive;
 pub use frame::Material;

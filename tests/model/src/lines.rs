@@ -2,7 +2,8 @@
 //! as the byte that fills it, a block count as its field, which is one less.
 
 use crate::kmip;
-use crate::numbers::{COMMAND, KEY};
+use crate::numbers::{COMMAND, KEY, PROGRAM_KEK};
+use crate::wrap::wrap;
 
 pub const WRITE: u8 = 0x01;
 pub const READ: u8 = 0x02;
@@ -113,4 +114,14 @@ pub fn message_load(namespace: u8, tag: u16, uid: &str, key: u8) -> String {
 /// A frame of kind 0D with any bytes for its message.
 pub fn message_frame(namespace: u8, tag: u16, message: &[u8]) -> String {
     tagged(0x0D, namespace, tag) + &hex(message)
+}
+
+/// A load of a key that was wrapped with the program's key-encryption key.
+pub fn wrapped_load(namespace: u8, tag: u16, uid: &str, key: u8) -> String {
+    wrapped_frame(namespace, tag, uid, &wrap(&PROGRAM_KEK, &[key; KEY]))
+}
+
+/// A frame of kind 0E with any bytes for its wrapped key.
+pub fn wrapped_frame(namespace: u8, tag: u16, uid: &str, wrapped: &[u8]) -> String {
+    tagged(0x0E, namespace, tag) + &with_length(uid) + &hex(wrapped)
 }

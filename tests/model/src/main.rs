@@ -2,7 +2,7 @@
 
 use std::io::{copy, sink, stdin, stdout, Read, Result, Write};
 
-use model::numbers::{INPUT, OUTPUT, STORE};
+use model::numbers::{INPUT, OUTPUT, PROGRAM_KEK, STORE};
 use model::{status, Drive};
 
 fn main() -> Result<()> {
@@ -14,7 +14,7 @@ fn main() -> Result<()> {
     }
     let mut marks = [0; STORE];
     let mut out = [0; OUTPUT];
-    let (_, mut drive) = Drive::start(&mut marks);
+    let (_, mut drive) = Drive::start(&PROGRAM_KEK, &mut marks);
     let (number, _, written) = drive.session(&mut marks, &text, &mut out);
     if number != status::DONE {
         return writeln!(stdout(), "{number:04X}");

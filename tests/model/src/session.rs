@@ -103,6 +103,9 @@ impl Drive {
             Frame::Manage(namespace, count) => self.manage(namespace, count)?,
             Frame::Release(namespace) => self.release(marks, namespace)?,
             Frame::Load(namespace, tag, material) => self.load(namespace, tag, material)?,
+            Frame::WrappedLoad(namespace, tag, uid, wrapped) => {
+                self.wrapped_load(namespace, tag, uid, wrapped)?
+            }
             Frame::Replace(namespace, tag, old, material) => {
                 self.replace(namespace, tag, old, material)?
             }

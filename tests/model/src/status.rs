@@ -27,6 +27,8 @@ pub const OTHER_KEY: u16 = 0x070C;
 pub const STORE: u16 = 0x070D;
 pub const UNSOUND: u16 = 0x070E;
 pub const OUTPUT: u16 = 0x070F;
+/// Of a wrapped key another integrity value came out.
+pub const INTEGRITY: u16 = 0x0710;
 pub const DISCOVERY: u16 = 0x0716;
 pub const MESSAGE: u16 = 0x0717;
 pub const MESSAGE_KEY_UID: u16 = 0x0718;

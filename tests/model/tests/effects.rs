@@ -4,7 +4,7 @@ mod bench;
 
 use bench::Bench;
 use model::lines::*;
-use model::numbers::{BLOCKS, MARK, STORE};
+use model::numbers::{BLOCKS, MARK, PROGRAM_KEK, STORE};
 use model::Drive;
 
 const U9: &str = "A0A1A2A3A4A5A6A7A8";
@@ -31,7 +31,7 @@ fn a_slot_holds_its_key_padded() {
 fn the_first_and_the_last_slot() {
     let mut bench = Bench::new();
     assert_eq!(bench.drive.keys.len(), 25_088);
-    assert_eq!(bench.drive.to_image().len(), 25_094);
+    assert_eq!(bench.drive.to_image().len(), 25_126);
     bench.accept(manage(1, 128));
     bench.accept(manage(4, 128));
     bench.accept(load(1, 0, U16, 0x11));
@@ -66,7 +66,7 @@ fn an_unmanaged_write_leaves_no_mark() {
     let mut bench = Bench::new();
     bench.accept(with(&write(4, 9, 0, 255), 50, 0));
     assert_eq!(bench.marks, [0; STORE]);
-    assert_eq!(bench.drive, Drive::fresh());
+    assert_eq!(bench.drive, Drive::fresh(&PROGRAM_KEK));
 }
 
 #[test]

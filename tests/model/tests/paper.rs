@@ -4,7 +4,7 @@ mod bench;
 
 use bench::Bench;
 use model::lines::*;
-use model::numbers::STORE;
+use model::numbers::{PROGRAM_KEK, STORE};
 use model::Drive;
 
 const U16: &str = "000102030405060708090A0B0C0D0E0F";
@@ -15,7 +15,7 @@ fn worked_session() {
     let text = format!("010102\n0301000001AA{key}\n05010100\n09\n0B01\n05010000\n");
     let answers = b"0000\n0000\n070A\n000012000000\n0000\n070A\n";
     let mut marks = [0xFF; STORE];
-    let (number, mut drive) = Drive::start(&mut marks);
+    let (number, mut drive) = Drive::start(&PROGRAM_KEK, &mut marks);
     let mut out = [b'~'; 6 * 13];
     assert_eq!(number, 0);
     let result = drive.session(&mut marks, text.as_bytes(), &mut out);

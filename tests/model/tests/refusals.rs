@@ -4,7 +4,7 @@ mod bench;
 
 use bench::Bench;
 use model::lines::*;
-use model::numbers::{OUTPUT, SLOT, TAGS};
+use model::numbers::{OUTPUT, PROGRAM_KEK, SLOT, TAGS, WRAPPED};
 use model::Drive;
 
 /// Namespace 1 with tags 0 and 1, tag 0 loaded, block 7 written with it.
@@ -48,6 +48,7 @@ fn namespace_000b() {
         bench.refuse(manage(namespace, 1), "000B");
         bench.refuse(release(namespace), "000B");
         bench.refuse(load(namespace, 0, "AA", 0x11), "000B");
+        bench.refuse(wrapped_load(namespace, 0, "AA", 0x11), "000B");
         bench.refuse(replace(namespace, 0, "AA", "BB", 0x22), "000B");
         bench.refuse(clear_one(namespace, 0), "000B");
         bench.refuse(clear_all(namespace), "000B");
@@ -62,6 +63,7 @@ fn tag_0025() {
     let mut bench = recorded();
     for tag in [2, 127, 128, 256, u16::MAX] {
         bench.refuse(load(1, tag, "BB", 0x22), "0025");
+        bench.refuse(wrapped_load(1, tag, "BB", 0x22), "0025");
         bench.refuse(replace(1, tag, "AA", "BB", 0x22), "0025");
         bench.refuse(clear_one(1, tag), "0025");
         bench.refuse(write(1, tag, 0, 0), "0025");
@@ -132,7 +134,7 @@ fn boot_locks_010e_and_011e() {
 #[test]
 fn kind_0702() {
     let mut bench = Bench::new();
-    for kind in (0..=255).filter(|kind| !(1..=13).contains(kind)) {
+    for kind in (0..=255).filter(|kind| !(1..=14).contains(kind)) {
         for bytes in [1, 70, 71, 511, 512] {
             bench.refuse(hex(&vec![kind; bytes]), "0702");
         }
@@ -145,7 +147,8 @@ fn length_0703() {
     let mut bench = recorded();
     let frames = [manage(2, 1), release(1), clear_one(1, 0), clear_all(1), write(1, 0, 0, 0)];
     let others = [set_features(9), get_features(), boot_write(0), power_cycle(), discovery()];
-    let keyed = [load(1, 1, "BB", 0x22), replace(1, 0, "AA", "BB", 0x22)];
+    let [load, wrapped] = [load(1, 1, "BB", 0x22), wrapped_load(1, 1, "BB", 0x22)];
+    let keyed = [load, wrapped, replace(1, 0, "AA", "BB", 0x22)];
     for frame in frames.iter().chain(&others).chain(&keyed) {
         let line = format!("{frame}{}", "00".repeat(513));
         for bytes in (1..=80).chain((84..512).step_by(29)).chain([255, 256, 257, 511, 512]) {
@@ -161,12 +164,14 @@ fn length_0703() {
 fn key_uid_length_0704() {
     let mut bench = recorded();
     for length in (0..=255).filter(|length| !(1..=16).contains(length)) {
-        bench.refuse(format!("03010100{length:02X}"), "0704");
-        bench.refuse(format!("03010100{length:02X}{}", "00".repeat(65)), "0704");
+        for head in ["03010100", "0E010100"] {
+            bench.refuse(format!("{head}{length:02X}"), "0704");
+            bench.refuse(format!("{head}{length:02X}{}", "00".repeat(65)), "0704");
+        }
         bench.refuse(format!("04010000{length:02X}"), "0704");
         bench.refuse(format!("0401000001AA{length:02X}"), "0704");
         bench.refuse(format!("04010000{length:02X}{}", "00".repeat(65)), "0704");
-        for head in ["03010100", "04010000", "0401000001AA"] {
+        for head in ["03010100", "0E010100", "04010000", "0401000001AA"] {
             for bytes in [71, 72, 256, 512] {
                 let filling = "00".repeat(bytes - head.len() / 2 - 1);
                 bench.refuse(format!("{head}{length:02X}{filling}"), "0704");
@@ -185,6 +190,7 @@ fn management_0705_to_0708() {
     bench.refuse(release(2), "0706");
     bench.refuse(clear_all(2), "0706");
     bench.refuse(load(2, 0, "AA", 0x11), "0706");
+    bench.refuse(wrapped_load(2, 0, "AA", 0x11), "0706");
     bench.refuse(replace(2, 0, "AA", "BB", 0x22), "0706");
     bench.refuse(clear_one(2, 0), "0706");
     for count in [0].into_iter().chain(129..=255) {
@@ -217,15 +223,26 @@ fn slots_0709_to_070c() {
     let mut bench = recorded();
     bench.refuse(load(1, 0, "BB", 0x22), "0709");
     bench.refuse(load(1, 0, "AA", 0x11), "0709");
+    bench.refuse(wrapped_load(1, 0, "AA", 0x11), "0709");
     bench.refuse(clear_one(1, 1), "070A");
     bench.refuse(replace(1, 1, "AA", "BB", 0x22), "070A");
     for old in ["AB", "AA00", "AAAA"] {
         bench.refuse(replace(1, 0, old, "BB", 0x22), "070B");
     }
     bench.refuse(load(1, 1, "AA", 0x12), "070C");
+    bench.refuse(wrapped_load(1, 1, "AA", 0x12), "070C");
     bench.refuse(replace(1, 0, "AA", "AA", 0x12), "070C");
     bench.accept(replace(1, 0, "AA", "AA", 0x11));
     bench.accept(load(1, 1, "AA00", 0x12));
+}
+
+#[test]
+fn integrity_0710() {
+    let mut bench = recorded();
+    for byte in [0x00, 0x11, 0xA6, 0xFF] {
+        bench.refuse(wrapped_frame(1, 1, "BB", &[byte; WRAPPED]), "0710");
+    }
+    bench.accept(wrapped_load(1, 1, "BB", 0x11));
 }
 
 /// The number that refuses both a line and a session, with nothing changed or written.
@@ -251,7 +268,8 @@ fn store_070d() {
         let mut bench = recorded();
         bench.marks = vec![0xEE; length];
         assert_eq!(refused_call(&mut bench, 13), 0x070D);
-        assert_eq!(Drive::start(&mut bench.marks), (0x070D, Drive::fresh()));
+        let started = Drive::start(&PROGRAM_KEK, &mut bench.marks);
+        assert_eq!(started, (0x070D, Drive::fresh(&PROGRAM_KEK)));
         assert!(bench.marks.iter().all(|&byte| byte == 0xEE));
         let empty = bench.drive.session(&mut bench.marks, b"", &mut []);
         assert_eq!(empty, (0x070D, 0, 0));
@@ -324,7 +342,7 @@ fn session_asks(bench: &mut Bench, text: &str, lines: usize, room: usize, out: &
 #[test]
 fn a_line_asks_for_room_by_its_digits() {
     let mut bench = recorded();
-    let others = ["", "09", "0C00", "0c", " 0C", "0C ", "0C\r", "0C\n", "C", "0D", "0B00"];
+    let others = ["", "09", "0C00", "0c", " 0C", "0C ", "0C\r", "0C\n", "C", "0D", "0E", "0B00"];
     for (line, room) in others.map(|line| (line, 13)).into_iter().chain([("0C", 229)]) {
         let mut out = vec![b'~'; room];
         let (drive, marks) = (&mut bench.drive, &mut bench.marks);
@@ -355,9 +373,11 @@ fn images() {
     let image = bench.drive.to_image();
     assert_eq!(image[..6], [2, 0, 0, 0, 2, 2]);
     assert_eq!(image[6..9], [1, 0xAA, 0]);
+    assert_eq!(image[25_094..], PROGRAM_KEK);
     assert_eq!(Drive::from_image(&image), Some(bench.drive));
     assert_eq!(Drive::from_image(&image[1..]), None);
     assert_eq!(Drive::from_image(&image[..6_278]), None);
+    assert_eq!(Drive::from_image(&image[..25_094]), None);
     assert_eq!(Drive::from_image(&[image.as_slice(), &[0]].concat()), None);
     assert_eq!(Drive::from_image(&[]), None);
     for (at, lock) in [(4, 0), (4, 4), (5, 0), (5, 255)] {

@@ -3,6 +3,8 @@
 #![allow(dead_code)] // each test file has its own copy, and uses a part of it
 
 pub const KEY: [u8; 32] = [0x11; 32];
+/// In a line any 40 bytes are a wrapped key.
+pub const WRAPPED: [u8; 40] = [0x5E; 40];
 pub const HERON: &[u8] = b"HERON";
 
 const TEXT: u8 = 0x07;
@@ -23,6 +25,10 @@ fn named(name: &[u8]) -> Vec<u8> {
 
 pub fn load(room: u8, number: u16, name: &[u8], key: &[u8]) -> String {
     hex(&[&head(0x03, room, number), &named(name), key].concat())
+}
+
+pub fn wrapped_load(room: u8, number: u16, name: &[u8], wrapped: &[u8]) -> String {
+    hex(&[&head(0x0E, room, number), &named(name), wrapped].concat())
 }
 
 pub fn replace(room: u8, number: u16, old: &[u8], new: &[u8], key: &[u8]) -> String {

@@ -43,6 +43,8 @@ mod marks;
 mod message;
 #[path = "sessions/message_items.rs"]
 mod message_items;
+#[path = "sessions/misopened.rs"]
+mod misopened;
 #[path = "sessions/misplaced.rs"]
 mod misplaced;
 #[path = "sessions/misread.rs"]
@@ -61,6 +63,10 @@ mod spoilt;
 mod tally;
 #[path = "sessions/walk.rs"]
 mod walk;
+#[path = "sessions/wrapped.rs"]
+mod wrapped;
+#[path = "sessions/wrapped_order.rs"]
+mod wrapped_order;
 
 use broken::Rule;
 use folder::{printed_for, Folder};
@@ -104,6 +110,8 @@ fn by_hand() -> Folder {
     discovery::add(&mut folder);
     message::add(&mut folder);
     message_items::add(&mut folder);
+    wrapped::add(&mut folder);
+    wrapped_order::add(&mut folder);
     folder
 }
 

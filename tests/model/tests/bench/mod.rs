@@ -1,6 +1,6 @@
 //! A drive on the bench: every refusal is checked to change nothing.
 
-use model::numbers::STORE;
+use model::numbers::{PROGRAM_KEK, STORE};
 use model::{room, Drive};
 
 pub struct Bench {
@@ -10,7 +10,7 @@ pub struct Bench {
 
 impl Bench {
     pub fn new() -> Bench {
-        Bench { drive: Drive::fresh(), marks: vec![0; STORE] }
+        Bench { drive: Drive::fresh(&PROGRAM_KEK), marks: vec![0; STORE] }
     }
 
     /// The answer to a line, without its line feed.

@@ -3,8 +3,8 @@
 
 use model::lines::{clear_one, hex, load_key, message_frame, set_features, unhex};
 use model::numbers::{
-    BLOCKS, DISCOVERY_ROOM, FRAME, HEAD, INPUT, KEYS, KEY_UID, MARK, OUTPUT, REPLACE, ROOM, SLOT,
-    STORE, TAGS,
+    BLOCKS, DISCOVERY_ROOM, FRAME, HEAD, INPUT, KEK, KEYS, KEY_UID, MARK, OUTPUT, PROGRAM_KEK,
+    REPLACE, ROOM, SLOT, STORE, TAGS,
 };
 use model::{kmip, room, status, Drive};
 
@@ -79,6 +79,34 @@ pub enum Rule {
     MessageFirst,
     /// A message's KeyUID is judged before all else in it.
     MessageOrder,
+    /// A wrapped key's integrity value isn't looked at.
+    WrappedIntegrity,
+    /// Of a wrapped key's integrity value the first four bytes count.
+    WrappedHalf,
+    /// What the key wrap with padding has before a key is an integrity value too.
+    WrappedPadded,
+    /// A wrapped key's steps don't add their numbers.
+    WrappedStep,
+    /// A wrapped load keeps the wrapped bytes, as many as a key has.
+    WrappedKept,
+    /// A wrapped load compares the wrapped bytes for 07 0C.
+    WrappedConflict,
+    /// 07 10 comes before all that looks at the drive.
+    WrappedFirst,
+    /// 07 10 comes before 00 25.
+    WrappedTag,
+    /// 07 09 comes before 07 10.
+    WrappedOccupied,
+    /// 07 09 and 07 0C come before 07 10.
+    WrappedLast,
+    /// A wrapped key that is refused 07 10 is loaded all the same.
+    WrappedRefused,
+    /// A load of kind 0E takes a bare key.
+    WrappedBare,
+    /// A wrapped load isn't compared with other slots.
+    WrappedUnchecked,
+    /// A power cycle forgets the key-encryption key.
+    WrappedPowerCycle,
     /// 07 01 says no reason, as 01 had it.
     NoReason,
     /// 07 01 says its reason and no place.
@@ -99,7 +127,7 @@ pub enum Rule {
     PlaceByte,
 }
 
-const NAMES: [(&str, Rule); 42] = [
+const NAMES: [(&str, Rule); 56] = [
     ("small-letters", Rule::SmallLetters),
     ("last-line", Rule::LastLine),
     ("input", Rule::Input),
@@ -133,6 +161,20 @@ const NAMES: [(&str, Rule); 42] = [
     ("message-uid", Rule::MessageUid),
     ("message-first", Rule::MessageFirst),
     ("message-order", Rule::MessageOrder),
+    ("wrapped-integrity", Rule::WrappedIntegrity),
+    ("wrapped-half", Rule::WrappedHalf),
+    ("wrapped-padded", Rule::WrappedPadded),
+    ("wrapped-step", Rule::WrappedStep),
+    ("wrapped-kept", Rule::WrappedKept),
+    ("wrapped-conflict", Rule::WrappedConflict),
+    ("wrapped-first", Rule::WrappedFirst),
+    ("wrapped-tag", Rule::WrappedTag),
+    ("wrapped-occupied", Rule::WrappedOccupied),
+    ("wrapped-last", Rule::WrappedLast),
+    ("wrapped-refused", Rule::WrappedRefused),
+    ("wrapped-bare", Rule::WrappedBare),
+    ("wrapped-unchecked", Rule::WrappedUnchecked),
+    ("wrapped-power-cycle", Rule::WrappedPowerCycle),
     ("no-reason", Rule::NoReason),
     ("reason-only", Rule::ReasonOnly),
     ("bad-digit-last", Rule::BadDigitLast),
@@ -165,7 +207,7 @@ impl Rule {
         if lines.iter().map(|line| self.room(line)).sum::<usize>() > OUTPUT {
             return b"070F\n".to_vec();
         }
-        let mut bench = Bench { drive: Drive::fresh(), marks: [0; STORE] };
+        let mut bench = Bench { drive: Drive::fresh(&PROGRAM_KEK), marks: [0; STORE] };
         lines.into_iter().flat_map(|line| bench.answer(self, line)).collect()
     }
 
@@ -188,13 +230,13 @@ impl Rule {
     }
 }
 
-struct Bench {
-    drive: Drive,
+pub struct Bench {
+    pub drive: Drive,
     marks: [u8; STORE],
 }
 
 impl Bench {
-    fn line(&mut self, line: &[u8]) -> (u16, Vec<u8>) {
+    pub fn line(&mut self, line: &[u8]) -> (u16, Vec<u8>) {
         let mut out = vec![0; room(line)];
         let (number, written) = self.drive.line(&mut self.marks, line, &mut out);
         out.truncate(written);
@@ -233,6 +275,15 @@ impl Bench {
                 let message = misread(rule, &message, namespace, tag);
                 Some(self.line(message_frame(namespace, tag, &message).as_bytes()).1)
             }
+            Rule::WrappedIntegrity
+            | Rule::WrappedHalf
+            | Rule::WrappedPadded
+            | Rule::WrappedStep
+            | Rule::WrappedKept => self.misopened(rule, line),
+            Rule::WrappedBare if line.starts_with(b"0E") => {
+                let (number, out) = self.line(&[b"03", &line[2..]].concat());
+                (number != status::LENGTH).then_some(out)
+            }
             _ => None,
         }
     }
@@ -250,6 +301,7 @@ impl Bench {
             }
             (Rule::ReleaseMarks, b"02") => self.marks = marks,
             (Rule::PowerCycle, b"0B") => self.drive.keys = keys,
+            (Rule::WrappedPowerCycle, b"0B") if line == b"0B01" => self.drive.kek = [0; KEK],
             (Rule::ControllerReset, b"0B") | (Rule::DiscoveryLocks, b"0C") => {
                 self.drive.locks = [2; 2];
             }
@@ -270,7 +322,9 @@ impl Bench {
                 Some(self.unmanaged(line, b"0708\n"))
             }
             (Rule::TagByte, kind, status::TAG) => Some(self.line(&low_tag(kind, line)).1),
-            (Rule::NearSlots, b"03" | b"0D", status::OTHER_KEY) => Some(self.near_slots(line)),
+            (Rule::NearSlots, b"03" | b"0D" | b"0E", status::OTHER_KEY) => {
+                Some(self.near_slots(line))
+            }
             (Rule::OwnSlot, b"04", status::OTHER_KEY) => Some(self.own_slot(line)),
             (Rule::OtherRooms, _, status::OTHER_KEY) => Some(self.other_rooms(line)),
             (Rule::FirstEight | Rule::FirstFifteen | Rule::NoLength, _, status::WRONG_KEY) => {
@@ -290,6 +344,7 @@ impl Bench {
                 Some(b"0718\n".to_vec())
             }
             (_, _, status::LINE) => fault_told(rule, line, out),
+            (_, b"0E", _) => self.misjudged(rule, line, number),
             _ => None,
         }
     }
@@ -315,10 +370,15 @@ impl Bench {
         answer.to_vec()
     }
 
-    /// Answers a refused load again with the far slots out of sight. What it loads was zero.
+    /// Answers a refused load again with the far slots out of sight.
     fn near_slots(&mut self, line: &[u8]) -> Vec<u8> {
+        self.out_of_sight(line, |keys| far_slots(keys).for_each(|slots| slots.fill(0)))
+    }
+
+    /// Answers a refused load again with less to be seen of the slots. What it loads was zero.
+    pub fn out_of_sight(&mut self, line: &[u8], hide: impl Fn(&mut [u8; KEYS])) -> Vec<u8> {
         let keys = self.drive.keys;
-        far_slots(&mut self.drive.keys).for_each(|slots| slots.fill(0));
+        hide(&mut self.drive.keys);
         let out = self.line(line).1;
         self.drive.keys.iter_mut().zip(keys).for_each(|(byte, before)| *byte |= before);
         out
@@ -369,12 +429,17 @@ pub fn is_digit(byte: &u8) -> bool {
     matches!(byte, b'0'..=b'9' | b'A'..=b'F')
 }
 
-/// Namespace, tag and message of a line of kind 0D, if it is a frame of at least 4 bytes.
-fn message_of(line: &[u8]) -> Option<(u8, u16, Vec<u8>)> {
+/// The bytes of a frame line.
+pub fn frame_of(line: &[u8]) -> Option<Vec<u8>> {
     if line.len() % 2 == 1 || line.len() > 2 * FRAME || !line.iter().all(is_digit) {
         return None;
     }
-    match unhex(std::str::from_utf8(line).ok()?)[..] {
+    Some(unhex(std::str::from_utf8(line).ok()?))
+}
+
+/// Namespace, tag and message of a line of kind 0D, if it is a frame of at least 4 bytes.
+fn message_of(line: &[u8]) -> Option<(u8, u16, Vec<u8>)> {
+    match frame_of(line)?[..] {
         [0x0D, namespace, t0, t1, ref message @ ..] => {
             Some((namespace, u16::from_le_bytes([t0, t1]), message.to_vec()))
         }

@@ -4,7 +4,7 @@ use std::collections::{BTreeMap, BTreeSet};
 use std::path::{Path, PathBuf};
 use std::{fs, io};
 
-use model::numbers::{INPUT, OUTPUT, STORE};
+use model::numbers::{INPUT, OUTPUT, PROGRAM_KEK, STORE};
 use model::{status, Drive};
 
 use crate::kept::{family, KEPT};
@@ -129,7 +129,7 @@ pub fn printed_for(text: &[u8]) -> Vec<u8> {
         return b"070F\n".to_vec();
     }
     let (mut marks, mut out) = ([0; STORE], vec![0; OUTPUT]);
-    let (_, mut drive) = Drive::start(&mut marks);
+    let (_, mut drive) = Drive::start(&PROGRAM_KEK, &mut marks);
     let (number, _, written) = drive.session(&mut marks, text, &mut out);
     if number != status::DONE {
         return format!("{number:04X}\n").into_bytes();

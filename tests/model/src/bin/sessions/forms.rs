@@ -186,7 +186,8 @@ fn lower_case(folder: &mut Folder) {
             ("0d".to_string(), "0701030100"),
             ("ff".to_string(), "0701030000"),
             ("0D".to_string(), "0703"),
-            ("0E".to_string(), "0702"),
+            ("0E".to_string(), "0703"),
+            ("0F".to_string(), "0702"),
         ],
     );
 }
@@ -222,7 +223,7 @@ fn kinds(folder: &mut Folder) {
     let answer = |kind| match kind {
         0x09 => "000012000000",
         0x0C => discovery::answer(),
-        0x01..=0x0D => "0703",
+        0x01..=0x0E => "0703",
         _ => "0702",
     };
     folder.add("kind-every-byte-alone", (0..=255).map(|kind| (hex(&[kind]), answer(kind))));
@@ -231,21 +232,21 @@ fn kinds(folder: &mut Folder) {
         0x02 | 0x06 => "000B",
         0x0A => "011E",
         0x0B => "0000",
-        0x01..=0x0D => "0703",
+        0x01..=0x0E => "0703",
         _ => "0702",
     };
     folder.add("kind-every-byte-and-00", (0..=255).map(|kind| (hex(&[kind, 0]), answer(kind))));
 }
 
 fn unknown_kinds(folder: &mut Folder) {
-    for kind in [0x00, 0x0E, 0xFF] {
+    for kind in [0x00, 0x0F, 0xFF] {
         let of = |length: usize| (format!("{kind:02X}{}", "01".repeat(length - 1)), "0702");
         folder.add(format!("kind-{kind:02x}-of-1-to-60-bytes"), (1..=60).map(of));
         folder.add(format!("kind-{kind:02x}-of-61-to-80-bytes"), (61..=80).map(of));
         let long = [128, 255, 256, 257, 511, 512];
         folder.add(format!("kind-{kind:02x}-of-128-to-512-bytes"), long.map(of));
     }
-    let others = [0x0E, 0x0F, 0x10, 0x11, 0x17, 0x19, 0x70, 0x7F, 0x80, 0x81, 0x90, 0xFE];
+    let others = [0x0F, 0x10, 0x11, 0x17, 0x19, 0x70, 0x7F, 0x80, 0x81, 0x90, 0xFE];
     folder.add(
         "kind-unknown-before-a-whole-command",
         others.map(|kind: u8| (format!("{kind:02X}{}", &read(1, 0, 0, 0)[2..]), "0702")),

@@ -1,6 +1,6 @@
 //! The sessions that are kept as files, for people: by family, which is a folder of `tests/sessions`.
 
-pub const KEPT: [(&str, &[&str]); 12] = [
+pub const KEPT: [(&str, &[&str]); 13] = [
     (
         "paper",
         &[
@@ -131,6 +131,9 @@ pub const KEPT: [(&str, &[&str]); 12] = [
             "order-replace-0025-before-070a-070b-070c",
             "order-replace-070a-before-070b-and-070c",
             "order-replace-lengths",
+            "order-wrapped-0025-before-0710-0709-070c",
+            "order-wrapped-0710-before-0709-and-070c",
+            "order-wrapped-every-check",
         ],
     ),
     (
@@ -157,6 +160,24 @@ pub const KEPT: [(&str, &[&str]); 12] = [
             "message-algorithm-and-length-in-key-block",
             "message-attribute-named-uid",
             "message-namespace-id-twice",
+        ],
+    ),
+    (
+        "wrapped",
+        &[
+            "wrapped-key-of-rfc-3394",
+            "wrapped-with-one-bit-otherwise",
+            "wrapped-with-another-key-encryption-key",
+            "wrapped-behind-another-integrity-value",
+            "wrapped-load-of-a-bare-key",
+            "wrapped-key-inside-is-what-is-loaded",
+            "wrapped-and-other-loads-share-the-rule-of-one-key",
+            "wrapped-one-key-in-every-namespace",
+            "wrapped-load-replaced",
+            "wrapped-loads-gone-and-loaded-anew",
+            "wrapped-refused-changes-nothing",
+            "wrapped-key-uid-of-0-and-17",
+            "length-wrapped-to-50-bytes",
         ],
     ),
 ];

@@ -1,4 +1,4 @@
-//! 07 03 of every kind, at every length up to 70 bytes and some up to 512, and every truncation of load and replace.
+//! 07 03 of every kind, at every length up to 70 bytes and some up to 512, and every truncation of loads and replace.
 
 use model::lines::*;
 
@@ -67,6 +67,9 @@ fn slots(folder: &mut Folder) {
     let frame = load(1, 1, "BB", 0x22);
     let proof = vec![(clear_one(1, 1), "070A"), (frame.clone(), "0000")];
     at_every_length(folder, "load", loaded(), &frame, proof);
+    let frame = wrapped_load(1, 1, "BB", 0x22);
+    let proof = vec![(clear_one(1, 1), "070A"), (frame.clone(), "0000")];
+    at_every_length(folder, "wrapped", loaded(), &frame, proof);
     let frame = replace(1, 0, "AA", "BB", 0x22);
     let proof = vec![(frame.clone(), "0000"), (frame.clone(), "070B")];
     at_every_length(folder, "replace", loaded(), &frame, proof);
@@ -114,11 +117,16 @@ fn cut_at_digits(line: &str, cuts: std::ops::Range<usize>) -> Lines {
 
 fn load_truncated(folder: &mut Folder) {
     let managed = vec![(manage(1, 1), "0000")];
-    for (name, uid, parts) in [
-        ("load-cut-at-every-digit-key-uid-1", "AA", &[1, 76][..]),
-        ("load-cut-at-every-digit-key-uid-16", A16, &[1, 80, 106]),
+    for (name, frame, parts) in [
+        ("load-cut-at-every-digit-key-uid-1", load(1, 0, "AA", 0x11), &[1, 76][..]),
+        ("load-cut-at-every-digit-key-uid-16", load(1, 0, A16, 0x11), &[1, 80, 106]),
+        ("wrapped-cut-at-every-digit-key-uid-1", wrapped_load(1, 0, "AA", 0x11), &[1, 80, 92]),
+        (
+            "wrapped-cut-at-every-digit-key-uid-16",
+            wrapped_load(1, 0, A16, 0x11),
+            &[1, 80, 110, 122],
+        ),
     ] {
-        let frame = load(1, 0, uid, 0x11);
         let proof = vec![(clear_one(1, 0), "070A"), (frame.clone(), "0000")];
         for cuts in parts.windows(2) {
             let cuts = cuts[0]..cuts[1];
@@ -145,17 +153,20 @@ fn cuts() -> [Vec<usize>; 3] {
 fn load_bad_length_byte(folder: &mut Folder) {
     let managed = vec![(manage(1, 1), "0000")];
     let proof = vec![(clear_one(1, 0), "070A")];
-    for length in [0x00, 0x11, 0xFF] {
-        let frame = format!("03010000{length:02X}{}", "A5".repeat(65));
-        for cuts in cuts() {
-            let name = format!("load-key-uid-length-{length}-cut-from-{}", cuts[0]);
-            let lines = [managed.clone(), cut_at_bytes(&frame, &cuts, 5), proof.clone()].concat();
-            folder.add(name, lines);
+    for (load, head) in [("load", "03010000"), ("wrapped", "0E010000")] {
+        for length in [0x00, 0x11, 0xFF] {
+            let frame = format!("{head}{length:02X}{}", "A5".repeat(65));
+            for cuts in cuts() {
+                let name = format!("{load}-key-uid-length-{length}-cut-from-{}", cuts[0]);
+                let cut = cut_at_bytes(&frame, &cuts, 5);
+                folder.add(name, [managed.clone(), cut, proof.clone()].concat());
+            }
         }
+        let all = (0..=255).filter(|length| !(1..=16).contains(length));
+        let bad: Lines = all.map(|length| (format!("{head}{length:02X}"), "0704")).collect();
+        let name = format!("{load}-every-bad-key-uid-length");
+        folder.add(name, [managed.clone(), bad, proof.clone()].concat());
     }
-    let all = (0..=255).filter(|length| !(1..=16).contains(length));
-    let bad: Lines = all.map(|length| (format!("03010000{length:02X}"), "0704")).collect();
-    folder.add("load-every-bad-key-uid-length", [managed, bad, proof].concat());
 }
 
 fn replace_truncated(folder: &mut Folder) {

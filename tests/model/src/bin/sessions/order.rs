@@ -32,12 +32,12 @@ fn line_kind_length(folder: &mut Folder) {
     folder.add(
         "order-0701-before-0702",
         [
-            ("0E0".to_string(), "0701040000"),
-            ("0e".to_string(), "0701030100"),
-            ("0E\r".to_string(), "0701030200"),
+            ("0F0".to_string(), "0701040000"),
+            ("0f".to_string(), "0701030100"),
+            ("0F\r".to_string(), "0701030200"),
             ("FF".repeat(513), "0701020000"),
-            ("0E 0".to_string(), "0701030200"),
-            ("0E".to_string(), "0702"),
+            ("0F 0".to_string(), "0701030200"),
+            ("0F".to_string(), "0702"),
         ],
     );
     folder.add(
@@ -59,10 +59,10 @@ fn line_kind_length(folder: &mut Folder) {
         [
             ("00".to_string(), "0702"),
             ("0001".to_string(), "0702"),
-            ("0E0102".to_string(), "0702"),
+            ("0F0102".to_string(), "0702"),
             ("FF01000011".to_string(), "0702"),
-            ("0E".repeat(70), "0702"),
-            ("0E".repeat(512), "0702"),
+            ("0F".repeat(70), "0702"),
+            ("0F".repeat(512), "0702"),
         ],
     );
 }
@@ -78,6 +78,7 @@ fn length_first(folder: &mut Folder) {
             ("050500".to_string(), "0703"),
             (clear_all(0) + LONG, "0703"),
             (load(5, 0, "AA", 0x11) + LONG, "0703"),
+            (wrapped_load(5, 0, "AA", 0x11) + LONG, "0703"),
             (replace(5, 0, "AA", "BB", 0x22) + LONG, "0703"),
         ],
     );
@@ -169,6 +170,9 @@ fn release_and_clear_all(folder: &mut Folder) {
             (load(0, 0, "AA", 0x11), "000B"),
             (load(5, 0, "AA", 0x11), "000B"),
             (load(4, 0, "AA", 0x11), "0706"),
+            (wrapped_load(0, 0, "AA", 0x11), "000B"),
+            (wrapped_load(5, 0, "AA", 0x11), "000B"),
+            (wrapped_load(4, 0, "AA", 0x11), "0706"),
             (replace(0, 0, "AA", "BB", 0x22), "000B"),
             (replace(5, 0, "AA", "BB", 0x22), "000B"),
             (replace(4, 0, "AA", "BB", 0x22), "0706"),

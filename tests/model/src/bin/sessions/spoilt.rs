@@ -1,10 +1,13 @@
-//! The message of a load as a walk sends it: as it must be, or with one thing otherwise.
+//! The message of a load and a wrapped key as a walk sends them: as they must be, or with one thing otherwise.
 
 use model::kmip;
 use model::messages::{changed, edited, items, padding, with_byte, Change, CHANGES};
+use model::numbers::{KEY, PROGRAM_KEK, WRAPPED};
+use model::wrap::{wrap, wrap_behind, INTEGRITY};
 
 use crate::dice::Dice;
 use crate::message::{attribute, NAMESPACE, TAG};
+use crate::wrapped::PADDED;
 
 pub fn message(dice: &mut Dice, namespace: u8, tag: u16, uid: &[u8], key: &[u8]) -> Vec<u8> {
     let right = kmip::message(namespace, tag, uid, key);
@@ -49,4 +52,27 @@ fn change(dice: &mut Dice, right: &[u8], changes: &[Change]) -> Vec<u8> {
     let (item, change) = (dice.below(items(right)), dice.pick(changes));
     let next = (item..items(right)).find_map(|item| changed(right, item, change));
     next.unwrap_or_else(|| right.to_vec())
+}
+
+/// The key wrapped as it must be, mostly, or what an office that is nearly right sends for that.
+pub fn wrapped(dice: &mut Dice, key: &[u8; KEY]) -> Vec<u8> {
+    let right = wrap(&PROGRAM_KEK, key);
+    match dice.below(20) {
+        0 | 1 => flipped(dice, right).to_vec(),
+        2 => wrap(&flipped(dice, PROGRAM_KEK), key).to_vec(),
+        3 | 4 => {
+            let other = INTEGRITY ^ 1 << dice.below(64);
+            let first = dice.pick(&[PADDED, other, other]);
+            wrap_behind(&PROGRAM_KEK, first, key).to_vec()
+        }
+        5 => [&INTEGRITY.to_be_bytes(), &key[..]].concat(),
+        6 => dice.pick(&[&key[..], &right[..WRAPPED - 1], &right[8..]]).to_vec(),
+        _ => right.to_vec(),
+    }
+}
+
+/// The bytes with one bit otherwise.
+fn flipped<const N: usize>(dice: &mut Dice, mut bytes: [u8; N]) -> [u8; N] {
+    bytes[dice.below(N)] ^= 1 << dice.below(8);
+    bytes
 }

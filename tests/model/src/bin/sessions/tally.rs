@@ -15,7 +15,7 @@ const RESPONSES: &str = "responses";
 const FAULTS: [&str; 4] = ["070101", "070102", "070103", "070104"];
 
 /// All else that the program can print but 00 00.
-const REFUSALS: [u16; 22] = [
+const REFUSALS: [u16; 23] = [
     OPCODE,
     FIELD,
     NAMESPACE,
@@ -36,6 +36,7 @@ const REFUSALS: [u16; 22] = [
     OLD_KEY_UID,
     OTHER_KEY,
     OUTPUT,
+    INTEGRITY,
     MESSAGE,
     MESSAGE_KEY_UID,
 ];

@@ -3,7 +3,8 @@
 
 use model::lines::*;
 use model::numbers::{
-    BLOCKS, DISCOVERY_ROOM, FRAME, HEAD, KEY, NAMESPACES, POOL, REPLACE, SLOT, STORE, TAGS,
+    BLOCKS, DISCOVERY_ROOM, FRAME, HEAD, KEY, NAMESPACES, POOL, PROGRAM_KEK, REPLACE, SLOT, STORE,
+    TAGS,
 };
 use model::Drive;
 
@@ -34,7 +35,8 @@ impl Walk {
         let uids = key_uids(&mut dice);
         let firsts = (0..2).map(|_| dice.below(BLOCKS) as u64).chain([0, 0, 255]).collect();
         let messages = dice.pick(&[4, 150, 150, 150]);
-        Walk { dice, drive: Drive::fresh(), marks: [0; STORE], uids, firsts, messages }
+        let drive = Drive::fresh(&PROGRAM_KEK);
+        Walk { dice, drive, marks: [0; STORE], uids, firsts, messages }
     }
 
     pub fn line(&mut self) -> Vec<u8> {
@@ -56,9 +58,9 @@ impl Walk {
             return self.message();
         }
         if !loaded && self.dice.once_in(2) {
-            return self.load();
+            return if self.dice.once_in(3) { self.wrapped() } else { self.load() };
         }
-        match self.dice.below(50) {
+        match self.dice.below(56) {
             0..=2 => self.manage(),
             3..=4 => release(self.namespace()),
             5..=10 => self.load(),
@@ -69,6 +71,7 @@ impl Walk {
             43 => get_features(),
             44..=45 => boot_write(self.dice.pick(&[0, 1, 0, 1, 0, 1, 2, 255])),
             46..=47 => hex(&[0x0B, self.dice.pick(&[0, 0, 0, 1, 1, 2])]),
+            48..=53 => self.wrapped(),
             _ => discovery() + &"00".repeat(self.dice.pick(&[0, 0, 0, 0, 0, 1, 2, REPLACE])),
         }
     }
@@ -152,6 +155,15 @@ impl Walk {
         let (uid, key) = self.material();
         let message = spoilt::message(&mut self.dice, namespace, tag, &unhex(&uid), &key);
         message_frame(namespace, tag, &message)
+    }
+
+    fn wrapped(&mut self) -> String {
+        let namespace = self.namespace();
+        let loaded = self.dice.once_in(6);
+        let tag = self.tag(namespace, loaded);
+        let (uid, key) = self.material();
+        let wrapped = spoilt::wrapped(&mut self.dice, &key);
+        wrapped_frame(namespace, tag, &uid, &wrapped)
     }
 
     fn replace(&mut self) -> String {
@@ -245,7 +257,7 @@ impl Walk {
             _ => {
                 let limits = [0x00, 0x01, 0x0F, 0x10, 0x11, 0x7F, 0x80, 0x81, 0xFF];
                 let byte = hex(&[self.dice.pick(&limits)]);
-                let has_length = line.starts_with(b"03") || line.starts_with(b"04");
+                let has_length = [b"03", b"04", b"0E"].iter().any(|&kind| line.starts_with(kind));
                 let at = if has_length && self.dice.once_in(2) { 8 } else { at / 2 * 2 };
                 line[at..at + 2].copy_from_slice(byte.as_bytes());
             }
