@@ -266,7 +266,8 @@ pub tight-tuffaleen-c-message : Tight-tuffaleen-c-message
 tight-tuffaleen-c-message = (λ κs args. tt, λ κs args r r′ e e′ p q. ap (λ (c : CMessage). (c .number, (c .bytes, c .out))) (one p q))
 
 pub tight-tuffaleen-c-wrap : Tight-tuffaleen-c-wrap
-tight-tuffaleen-c-wrap = (λ κs args. tt, λ κs args r r′ e e′ p q. one p q)
+tight-tuffaleen-c-wrap = (λ κs args. tt, λ κs args r r′ e e′ p q. both (one (p .0) (q .0)) (one (p .1) (q .1)))
 
 pub tight-tuffaleen-c-unwrap : Tight-tuffaleen-c-unwrap
-tight-tuffaleen-c-unwrap = (λ κs args. tt, λ κs args r r′ e e′ p q. ap (λ (c : CUnwrapped). (c .number, c .bytes)) (one p q))
+tight-tuffaleen-c-unwrap =
+    (λ κs args. tt, λ κs args r r′ e e′ p q. both (ap (λ (c : CUnwrapped). (c .number, c .bytes)) (one (p .0) (q .0))) (one (p .1) (q .1)))

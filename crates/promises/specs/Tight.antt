@@ -324,7 +324,11 @@ Tight-tuffaleen-c-message =
     (λ κs result exit. (result, (now (exit .1 .1 .1 .1 .1 .0), now (exit .1 .1 .1 .1 .0))))
 
 abbrev pub Tight-tuffaleen-c-wrap : Type 0
-Tight-tuffaleen-c-wrap = Tight {Left = List ℕ} tuffaleen-c-wrap.Asked tuffaleen-c-wrap.Learnt (λ κs result exit. now (exit .1 .0))
+Tight-tuffaleen-c-wrap =
+    Tight {Left = List ℕ × List ℕ} tuffaleen-c-wrap.Asked tuffaleen-c-wrap.Learnt
+    (λ κs result exit. (now (exit .1 .0), now (exit .1 .1 .0)))
 
 abbrev pub Tight-tuffaleen-c-unwrap : Type 0
-Tight-tuffaleen-c-unwrap = Tight {Left = ℕ × List ℕ} tuffaleen-c-unwrap.Asked tuffaleen-c-unwrap.Learnt (λ κs result exit. (result, now (exit .1 .0)))
+Tight-tuffaleen-c-unwrap =
+    Tight {Left = (ℕ × List ℕ) × List ℕ} tuffaleen-c-unwrap.Asked tuffaleen-c-unwrap.Learnt
+    (λ κs result exit. ((result, now (exit .1 .0)), now (exit .1 .1 .0)))

@@ -3,6 +3,7 @@ ghost use mathlib.Core.Path.{_≡_};
 ghost use Rattle.tuffaleen_c.specs.Image.{cStart, cCall, cSession};
 ghost use Rattle.tuffaleen_c.specs.Host.{cDiscovery};
 ghost use lib.ListN.{drop};
+ghost use Rattle.cells.specs.Cells.{zeros};
 ghost use Rattle.rules.specs.KeyWrap.{wrap as wrapped};
 ghost use Rattle.tuffaleen_c.specs.Office.{cMessage};
 ghost use Rattle.tuffaleen_c.specs.Courier.{cUnwrap};
@@ -125,22 +126,30 @@ pub extern "C" fn tuffaleen_message(
     digits::number(office::answer(told))
 }
 
-// For the office that fills a courier's case: the key in the last 32 bytes, wrapped.
+// For the office that fills a courier's case: the key in the last 32 bytes, wrapped. The round keys go through words of the caller's: of words
+// that were local here the wipe would not be in the object code.
 #[no_mangle]
-pub extern "C" fn tuffaleen_wrap(kek: &[u8; KEK_SIZE], bytes: &mut [u8; WRAPPED_SIZE])
-    ensures { λ _. ⌜ now (bytes .exit) ≡ wrapped (now (kek .entry)) (drop 8 (now (bytes .entry))) ⌝ }
+pub extern "C" fn tuffaleen_wrap(
+    kek: &[u8; KEK_SIZE],
+    bytes: &mut [u8; WRAPPED_SIZE],
+    words: &mut [u32; SCHEDULE],
+)
+    ensures { λ _. ⌜ (now (bytes .exit) ≡ wrapped (now (kek .entry)) (drop 8 (now (bytes .entry)))) × (now (words .exit) ≡ zeros 60) ⌝ }
 {
-    let mut words = [0u32; SCHEDULE];
-    wrap::wrap(kek, bytes, &mut words);
+    wrap::wrap(kek, bytes, words);
 }
 
 // And for whoever opens it.
 #[no_mangle]
-pub extern "C" fn tuffaleen_unwrap(kek: &[u8; KEK_SIZE], bytes: &mut [u8; WRAPPED_SIZE]) -> u16
-    ensures { λ r. ⌜ record { number = r; bytes = now (bytes .exit) } ≡ cUnwrap (now (kek .entry)) (now (bytes .entry)) ⌝ }
+pub extern "C" fn tuffaleen_unwrap(
+    kek: &[u8; KEK_SIZE],
+    bytes: &mut [u8; WRAPPED_SIZE],
+    words: &mut [u32; SCHEDULE],
+) -> u16
+    ensures { λ r. ⌜ (record { number = r; bytes = now (bytes .exit) } ≡ cUnwrap (now (kek .entry)) (now (bytes .entry)))
+        × (now (words .exit) ≡ zeros 60) ⌝ }
 {
-    let mut words = [0u32; SCHEDULE];
-    if wrap::unwrap(kek, bytes, &mut words) {
+    if wrap::unwrap(kek, bytes, words) {
         return digits::number(Answer::Done);
     }
     digits::number(Answer::Refused(Refusal::IntegrityFailed))

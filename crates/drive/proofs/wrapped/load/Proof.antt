@@ -11,29 +11,7 @@ use Rattle.drive.proofs.ActingLaws.{found-passes}
 use Rattle.drive.proofs.WrappedLaws.{wrapped-refused}
 use Rattle.drive.proofs.wrapped.load.Statement.{statement}
 use Rattle.drive.proofs.wrapped.load.Tie as tie
-use Rattle.drive.proofs.wrapped.load.Reads as reads
-use Rattle.drive.proofs.wrapped.load.Lts as lts
-use Rattle.drive.proofs.answers.locate.Reads as locate-reads
-use Rattle.drive.proofs.answers.refused.Reads as refused-reads
-use Rattle.drive.proofs.wrapped.opened.Reads as opened-reads
 
--- src/wrapped.rt:105:11
-locate-requires : tie.Need-locate-requires
-locate-requires c κs = search needs
-
--- src/wrapped.rt:106:24
-enum-known-r : tie.Need-enum-known-r
-enum-known-r c = search needs
-
--- src/wrapped.rt:106:30
-refused-requires : tie.Need-refused-requires
-refused-requires c κs = search needs
-
--- src/wrapped.rt:107:46
-enum-told : tie.Need-enum-told
-enum-told c = search needs
-
--- src/wrapped.rt:107:28
 opened-requires : tie.Need-opened-requires
 opened-requires c κs =
     let s : tie.Start = search in
@@ -43,7 +21,6 @@ opened-requires c κs =
     let is : found.Place (p .enum-told .given .0 .0) ≡ located (state (a .registers) [] []) (a .ns) (a .tag) = sym (p .enum-told .given .1) ∙ l .locate .ensures in
     (s .pre .0, s .pre .1, found-passes (a .registers) (a .keys .now) [] (a .ns) (a .tag) (p .enum-told .given .0 .0) is)
 
--- src/wrapped.rt:89:1
 returns : tie.Need-returns
 returns c =
     let s : tie.Start = search in
@@ -57,28 +34,16 @@ returns c =
       λ z. z,
     )
 
--- src/wrapped.rt:89:1
-same-length : tie.Need-same-length
-same-length c = search needs
-
--- src/wrapped.rt:89:1
-same-length-2 : tie.Need-same-length-2
-same-length-2 c = search needs
-
--- src/wrapped.rt:89:1
-returns-2 : tie.Need-returns-2
-returns-2 c = search needs
-
 pub load-spec : {M : Type 1} → statement M
 load-spec =
     tie.close
     (tie.spec
-    locate-requires
-    enum-known-r
-    refused-requires
-    enum-told
+    (λ c κs. search needs)
+    (λ c. search needs)
+    (λ c κs. search needs)
+    (λ c. search needs)
     opened-requires
     returns
-    same-length
-    same-length-2
-    returns-2)
+    (λ c. search needs)
+    (λ c. search needs)
+    (λ c. search needs))

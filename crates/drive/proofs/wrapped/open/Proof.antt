@@ -13,51 +13,7 @@ use Rattle.wrap.specs.Wrapping.{Opening, told, openedIn}
 use Rattle.drive.proofs.WrappedLaws.{opened-by}
 use Rattle.drive.proofs.wrapped.open.Statement.{statement}
 use Rattle.drive.proofs.wrapped.open.Tie as tie
-use Rattle.drive.proofs.wrapped.open.Reads as reads
-use Rattle.drive.proofs.wrapped.open.Lts as lts
-use Rattle.wrap.proofs.unwrap.Reads as unwrap-reads
 
--- src/wrapped.rt:39:13
-add-u : tie.Need-add-u
-add-u c = search needs
-
--- src/wrapped.rt:40:13
-add-e : tie.Need-add-e
-add-e c = search needs
-
--- src/wrapped.rt:41:18
-sub-unwrap : tie.Need-sub-unwrap
-sub-unwrap c = search needs
-
--- src/wrapped.rt:41:18
-part-unwrap-start : tie.Need-part-unwrap-start
-part-unwrap-start c = search needs
-
--- src/wrapped.rt:41:18
-part-unwrap-end : tie.Need-part-unwrap-end
-part-unwrap-end c = search needs
-
--- src/wrapped.rt:41:39
-sub-unwrap-2 : tie.Need-sub-unwrap-2
-sub-unwrap-2 c = search needs
-
--- src/wrapped.rt:41:39
-part-unwrap-start-2 : tie.Need-part-unwrap-start-2
-part-unwrap-start-2 c = search needs
-
--- src/wrapped.rt:41:39
-part-unwrap-end-2 : tie.Need-part-unwrap-end-2
-part-unwrap-end-2 c = search needs
-
--- src/wrapped.rt:41:5
-unwrap-requires : tie.Need-unwrap-requires
-unwrap-requires c κs = search needs
-
--- src/wrapped.rt:32:1
-same-length : tie.Need-same-length
-same-length c = search needs
-
--- src/wrapped.rt:32:1
 returns : tie.Need-returns
 returns c =
     let s : tie.Start = search in
@@ -79,14 +35,14 @@ pub open-spec : {M : Type 1} → statement M
 open-spec =
     tie.close
     (tie.spec
-    add-u
-    add-e
-    sub-unwrap
-    part-unwrap-start
-    part-unwrap-end
-    sub-unwrap-2
-    part-unwrap-start-2
-    part-unwrap-end-2
-    unwrap-requires
-    same-length
+    (λ c. search needs)
+    (λ c. search needs)
+    (λ c. search needs)
+    (λ c. search needs)
+    (λ c. search needs)
+    (λ c. search needs)
+    (λ c. search needs)
+    (λ c. search needs)
+    (λ c κs. search needs)
+    (λ c. search needs)
     returns)

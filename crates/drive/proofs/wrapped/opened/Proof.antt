@@ -17,32 +17,13 @@ use Rattle.drive.proofs.ActingLaws.{cache-of}
 use Rattle.drive.proofs.WrappedLaws.{shut, opens, wrapped-shut, wrapped-open, uid-short, new-room, rest-same, contents-is, opened-fits}
 use Rattle.drive.proofs.wrapped.opened.Statement.{statement}
 use Rattle.drive.proofs.wrapped.opened.Tie as tie
-use Rattle.drive.proofs.wrapped.opened.Reads as reads
-use Rattle.drive.proofs.wrapped.opened.Lts as lts
-use Rattle.drive.proofs.answers.refused.Reads as refused-reads
-use Rattle.drive.proofs.wrapped.clear.Reads as clear-reads
-use Rattle.drive.proofs.wrapped.open.Reads as open-reads
 
--- src/wrapped.rt:82:9
 open-requires : tie.Need-open-requires
 open-requires c κs =
     let s : tie.Start = search in
     let a = s .args in
     (cache-of (a .registers) (a .keys .now) (s .pre .0), uid-short [] (a .f .now) (a .l) (s .pre .1 .0) (s .pre .1 .1), s .pre .1 .1)
 
--- src/wrapped.rt:83:9
-refused-requires : tie.Need-refused-requires
-refused-requires c κs = search needs
-
--- src/wrapped.rt:83:9
-same-length : tie.Need-same-length
-same-length c = search needs
-
--- src/wrapped.rt:83:9
-same-length-2 : tie.Need-same-length-2
-same-length-2 c = search needs
-
--- src/wrapped.rt:83:9
 returns : tie.Need-returns
 returns c =
     let s : tie.Start = search in
@@ -60,7 +41,6 @@ returns c =
       o .open .ensures .2,
     )
 
--- src/wrapped.rt:85:5
 clear-requires : tie.Need-clear-requires
 clear-requires c κs =
     let s : tie.Start = search in
@@ -77,15 +57,6 @@ clear-requires c κs =
       (opened-fits kek f (a .l) fit room _ (o .open .ensures .1) some, uid-short kek f (a .l) fit room, new-room kek f (a .l) fit room _ (o .open .ensures .1)),
     )
 
--- src/wrapped.rt:65:1
-same-length-3 : tie.Need-same-length-3
-same-length-3 c = search needs
-
--- src/wrapped.rt:65:1
-same-length-4 : tie.Need-same-length-4
-same-length-4 c = search needs
-
--- src/wrapped.rt:65:1
 returns-2 : tie.Need-returns-2
 returns-2 c =
     let s : tie.Start = search in
@@ -113,11 +84,11 @@ opened-spec =
     tie.close
     (tie.spec
     open-requires
-    refused-requires
-    same-length
-    same-length-2
+    (λ c κs. search needs)
+    (λ c. search needs)
+    (λ c. search needs)
     returns
     clear-requires
-    same-length-3
-    same-length-4
+    (λ c. search needs)
+    (λ c. search needs)
     returns-2)
