@@ -13,6 +13,9 @@ static uint8_t image[TUFFALEEN_IMAGE_BYTES], marks[TUFFALEEN_MARKS_BYTES];
 /* What office and drive have, and no courier: the key-encryption key. Here it is the program's, bytes 00 to 1F. */
 static uint8_t kek[TUFFALEEN_KEK_BYTES];
 
+/* What the round keys go through; the library zeroes it. */
+static uint32_t words[TUFFALEEN_ROUND_KEY_WORDS];
+
 /* What the courier has: a frame line. Nothing in it has to be hidden. */
 static char paper[2 * (HEAD_BYTES + TUFFALEEN_WRAPPED_BYTES) + 1];
 
@@ -62,10 +65,10 @@ static int office(void)
     uint8_t frame[HEAD_BYTES + TUFFALEEN_WRAPPED_BYTES] = {0x0E, 1, 0, 0, 5, 'H', 'E', 'R', 'O', 'N'};
     uint8_t copy[TUFFALEEN_WRAPPED_BYTES];
     memset(frame + HEAD_BYTES + VALUE_BYTES, 0x11, KEY_BYTES);
-    tuffaleen_wrap(kek, frame + HEAD_BYTES);
+    tuffaleen_wrap(kek, frame + HEAD_BYTES, words);
 
     memcpy(copy, frame + HEAD_BYTES, sizeof copy);
-    int different = differs("HERON's key is wrapped; opened again", tuffaleen_unwrap(kek, copy), TUFFALEEN_DONE);
+    int different = differs("HERON's key is wrapped; opened again", tuffaleen_unwrap(kek, copy, words), TUFFALEEN_DONE);
     different |= !is_key(copy + VALUE_BYTES);
     wipe(copy, sizeof copy);
     puts("the courier's paper, for namespace 1, tag 0:");

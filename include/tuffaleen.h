@@ -8,31 +8,41 @@
  *     gcc -Iinclude firmware.c target/staticlib/libtuffaleen_c.a
  *
  * It needs memcpy and memset and nothing else of a C library: no heap, no input or output, no threads. A call takes
- * at most 2,500 bytes of stack (the frames in the x86-64 code that rt makes), and what memcpy and memset take.
+ * at most 3,600 bytes of stack (the frames in the x86-64 code that rt makes), and what memcpy and memset take.
  *
  * Keys are worked on where they lie, in the image, and are not copied. A line that brings a key is decoded into 512
- * bytes on the stack, and what a message brings goes through 48 more; both are zeroed before the call returns. A
- * compiler may drop such stores; in the object code that rt makes (its clang 22, -O3, x86-64) they are there, at the
- * end of drive::act::on_line. What processor registers and the text that you handed over still hold, the library does
- * not wipe.
+ * bytes on the stack, and what a message brings goes through 48 more; to open a wrapped key, round keys are made of the
+ * key-encryption key, 240 bytes on the stack. All of these are zeroed before the call returns. A compiler may drop such
+ * stores; in the object code that rt makes (its clang 22, -O3, x86-64) they are there, at the end of drive::act::on_line
+ * and, for the round keys, of wrap::unwrap. tuffaleen_wrap and tuffaleen_unwrap have their round keys in memory of
+ * yours and zero it, which no compiler can drop. What processor registers and the text that you handed over still hold,
+ * the library does not wipe.
+ *
+ * Keys are wrapped and opened by look-ups in tables of 1 KB and of 256 bytes. The time of a look-up depends on the data:
+ * who can measure the time of a call exactly, or shares the cache, may learn of the key-encryption key
+ * (docs/KEYWRAP.md).
  *
  * The library keeps nothing between calls. All it knows lies in two buffers of yours:
  *
- *   image   the drive's state: tag counts, boot locks and keys.
+ *   image   the drive's state: tag counts, boot locks, keys, and the key-encryption key that opens wrapped keys.
  *   marks   the mark store: under which KeyUID each block was last written.
  *
- * tuffaleen_start makes both those of a fresh drive. Each later call reads them and changes them in place.
+ * tuffaleen_start makes both those of a fresh drive. Each later call reads them and changes them in place. No line
+ * changes the key-encryption key, and no answer has anything of it.
  *
- * What must outlast the power is the marks and the four tag counts, and nothing else of the image, which has the keys.
- * After a loss of power make the image anew: the tag counts kept, both locks Write Locked, every other byte zero. That
- * is what the line 0B01 (power cycle) makes of any sound image, and examples/power-loss.c shows it. Do not call
- * tuffaleen_start: it zeroes the marks.
+ * What must outlast the power is the marks, the four tag counts and the key-encryption key, and nothing else of the
+ * image, which has the keys. The key-encryption key is not in the marks: take it from where tuffaleen_start had it
+ * from. After a loss of power make the image anew: the tag counts kept, both locks Write Locked, the key-encryption key
+ * as at the start, every other byte zero. That is what the line 0B01 (power cycle) makes of any sound image, and
+ * examples/power-loss.c shows it. Do not call tuffaleen_start: it zeroes the marks.
  *
  * What the caller promises, since no function can check it:
  *
- *   - Every pointer may be read, and if it is not to const also written, for all of its length. `lines` and `written`
- *     point to a size_t each, and `fields` is aligned as C aligns a uint32_t.
- *   - No buffer overlaps another, nor `lines` or `written`.
+ *   - Every pointer may be read, and if it is not to const also written, for all of its length. `kek` points to 32
+ *     bytes, `bytes` to 40 and `words` to 60 uint32_t; `lines` and `written` point to a size_t each, and `fields` and
+ *     `words` are aligned as C aligns a uint32_t.
+ *   - No buffer overlaps another, nor `lines` or `written`. So the `kek` of tuffaleen_start does not lie in the image:
+ *     to start anew with the same, copy it first.
  *   - No pointer is null. Where a length is 0 nothing is read or written there; still pass some address.
  *   - Nothing else touches the buffers during a call. Calls on different buffers may run at the same time.
  *
@@ -57,21 +67,26 @@ extern "C" {
  *
  *   2   a mark holds the whole KeyUID, 17 bytes; 1 held 9, and its marks cannot be made into these.
  *   3   an image has 128 slots for each namespace; 2 had 32. Marks and tag counts are as in 2.
+ *   4   an image ends with the key-encryption key, 32 bytes; 3 had none. All before it, and the marks, are as in 3.
  *
- * Store it beside the marks and tag counts, and hand these to no library of another version. One exception: a library
- * of 3 takes those that were stored under 2, for it allows every tag count and every sum that 2 allowed. The way back
- * is closed: 2 refuses a tag count above 32 or a sum above 64 as unsound. The library cannot check the version: no
- * byte of the image or of the store holds it.
+ * Store it beside the marks and tag counts, and hand these to no library of another version. Two exceptions: marks and
+ * tag counts are the same in 3 and 4, so that either takes the other's; and both take those that were stored under 2,
+ * for they allow every tag count and every sum that 2 allowed. The way back to 2 is closed: it refuses a tag count
+ * above 32 or a sum above 64 as unsound. The library cannot check the version: no byte of the image or of the store
+ * holds it.
  */
-#define TUFFALEEN_LAYOUT_VERSION 3
+#define TUFFALEEN_LAYOUT_VERSION 4
 
 /* Sizes in bytes. */
-#define TUFFALEEN_IMAGE_BYTES 25094  /* an image, exactly */
+#define TUFFALEEN_IMAGE_BYTES 25126  /* an image, exactly */
 #define TUFFALEEN_MARKS_BYTES 17408  /* a mark store, exactly */
 #define TUFFALEEN_ANSWER_BYTES 13    /* the output that a call must have room for, for each line but the line 0C */
 #define TUFFALEEN_DISCOVERY_BYTES 229 /* the same for the line 0C, which asks for discovery */
 #define TUFFALEEN_LINE_BYTES 1024    /* the longest frame line, without its line feed */
 #define TUFFALEEN_MESSAGE_BYTES 408  /* the output that tuffaleen_message must have room for */
+#define TUFFALEEN_KEK_BYTES 32       /* a key-encryption key, exactly */
+#define TUFFALEEN_WRAPPED_BYTES 40   /* a wrapped key, exactly: a key of 32 and an integrity value of 8 */
+#define TUFFALEEN_ROUND_KEY_WORDS 60 /* words of 32 bits that tuffaleen_wrap and tuffaleen_unwrap are lent */
 
 /*
  * Where things lie in an image. Whoever only calls the functions below does not need these; they serve whoever
@@ -83,6 +98,7 @@ extern "C" {
 #define TUFFALEEN_SLOTS_AT 6         /* 512 slots, 128 for each namespace, managed or not */
 #define TUFFALEEN_SLOT_BYTES 49      /* KeyUID length 1 (0 if empty), KeyUID 16, key 32 */
 #define TUFFALEEN_SLOT_AT(ns, tag) (TUFFALEEN_SLOTS_AT + (((ns) - 1) * 128 + (tag)) * TUFFALEEN_SLOT_BYTES)
+#define TUFFALEEN_KEK_AT 25094       /* 32 bytes: the key-encryption key, behind the last slot */
 
 #define TUFFALEEN_WRITE_UNLOCKED 1
 #define TUFFALEEN_WRITE_LOCKED 2
@@ -121,6 +137,7 @@ enum tuffaleen_answer {
     TUFFALEEN_STORE_LENGTH = 0x070D,        /* store not of TUFFALEEN_MARKS_BYTES */
     TUFFALEEN_UNSOUND_STATE = 0x070E,       /* image of another length, or not sound */
     TUFFALEEN_OUTPUT_TOO_SHORT = 0x070F,    /* less than the lines, the fields or a message may need */
+    TUFFALEEN_INTEGRITY_FAILED = 0x0710,    /* a wrapped key whose integrity value does not come out */
     TUFFALEEN_NOT_A_RESPONSE = 0x0716,      /* tuffaleen_discovery alone: data that is no discovery response */
     TUFFALEEN_NOT_A_MESSAGE = 0x0717,       /* no message of a load to this namespace and tag */
     TUFFALEEN_MESSAGE_KEY_UID = 0x0718      /* a message whose KeyUID has 0 bytes or more than 16 */
@@ -201,14 +218,17 @@ enum tuffaleen_discovery_field {
 };
 
 /*
- * Starts a fresh drive: nothing managed, no keys, both boot partitions Write Locked, no block written.
+ * Starts a fresh drive: nothing managed, no keys, both boot partitions Write Locked, no block written. The 32 bytes at
+ * `kek` become its key-encryption key, for good. Any will do; whoever wraps keys for the drive has to have the same.
+ * The image has a copy of them, so that yours is not needed again until the power goes.
  *
- *   TUFFALEEN_DONE            the image is the fresh drive's and the marks are zero, whatever they held.
- *   TUFFALEEN_STORE_LENGTH    the marks have another length and stay. The image is the fresh drive's still, unless
- *                             its length is wrong too: then it stays as well.
+ *   TUFFALEEN_DONE            the image is the fresh drive's, with this key-encryption key, and the marks are zero,
+ *                             whatever they held.
+ *   TUFFALEEN_STORE_LENGTH    the marks have another length and stay. The image is the fresh drive's still, with this
+ *                             key-encryption key, unless its length is wrong too: then it stays as well.
  *   TUFFALEEN_UNSOUND_STATE   the image alone has another length. Both stay.
  */
-uint16_t tuffaleen_start(uint8_t *image, size_t image_len, uint8_t *marks, size_t marks_len);
+uint16_t tuffaleen_start(uint8_t *image, size_t image_len, uint8_t *marks, size_t marks_len, const uint8_t *kek);
 
 /*
  * Answers one frame line, given without its line feed. Returns the answer's number; at `out` the same number stands
@@ -221,9 +241,10 @@ uint16_t tuffaleen_start(uint8_t *image, size_t image_len, uint8_t *marks, size_
  *
  *   TUFFALEEN_OUTPUT_TOO_SHORT   out_len below 229 for the line 0C, below 13 for any other
  *   TUFFALEEN_STORE_LENGTH       marks_len other than 17408
- *   TUFFALEEN_UNSOUND_STATE      image_len other than 25094; a lock byte outside 1 to 3; a tag count above 128, a sum
+ *   TUFFALEEN_UNSOUND_STATE      image_len other than 25126; a lock byte outside 1 to 3; a tag count above 128, a sum
  *                                of them above 256; a slot that is loaded at an unallocated tag, has a KeyUID length
- *                                above 16, or has a byte other than zero after its KeyUID or, if empty, anywhere
+ *                                above 16, or has a byte other than zero after its KeyUID or, if empty, anywhere. A
+ *                                key-encryption key may have any bytes
  */
 uint16_t tuffaleen_line(uint8_t *image, size_t image_len, uint8_t *marks, size_t marks_len,
                         const uint8_t *line, size_t line_len,
@@ -274,6 +295,31 @@ uint16_t tuffaleen_discovery(const uint8_t *data, size_t data_len, uint32_t *fie
 uint16_t tuffaleen_message(uint8_t ns, uint16_t tag, const uint8_t *key_uid, size_t key_uid_len,
                            const uint8_t *key, size_t key_len,
                            uint8_t *out, size_t out_len, size_t *written);
+
+/*
+ * For an office that sends keys by a courier, who must not know them: wraps a key with the drive's key-encryption key,
+ * by the AES key wrap of RFC 3394 (KW of NIST SP 800-38F) with AES-256. It needs neither image nor marks. The 40 bytes
+ * are worked on in place: before, the key stands in bytes 8 to 39, and what the first 8 hold does not matter;
+ * afterwards all 40 are the wrapped key. The round keys of the key-encryption key go through the 60 words, which may
+ * hold anything before and are all zero afterwards.
+ *
+ * The courier carries these, and never the key-encryption key. A frame line of kind 0E brings them, which is a load of
+ * kind 03 with the 40 bytes in the key's place: 0E, namespace, tag, the KeyUID's length, the KeyUID, the wrapped key.
+ * For bytes that its key-encryption key does not open the drive answers TUFFALEEN_INTEGRITY_FAILED, and loads nothing.
+ * The wrapping guards the key alone: namespace, tag and KeyUID of the line are not in it, and the same key always
+ * becomes the same 40 bytes.
+ */
+void tuffaleen_wrap(const uint8_t *kek, uint8_t *bytes, uint32_t *words);
+
+/*
+ * Opens a wrapped key of 40 bytes in place, as the drive does, with 60 words as above. It needs neither image nor marks.
+ *
+ *   TUFFALEEN_DONE               the key stands in bytes 8 to 39, in the clear, and the first 8 are A6 each. Wrapped
+ *                                again, they are the same 40 bytes as before.
+ *   TUFFALEEN_INTEGRITY_FAILED   the bytes are no key that was wrapped with this key-encryption key: they were changed
+ *                                on the way, or wrapped with another. All 40 are zero.
+ */
+uint16_t tuffaleen_unwrap(const uint8_t *kek, uint8_t *bytes, uint32_t *words);
 
 #ifdef __cplusplus
 }

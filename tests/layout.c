@@ -151,6 +151,40 @@ static void load_by_message(int ns, int tag, uint8_t slot[49])
     CHECK(answer == TUFFALEEN_DONE, "load by message under tag %d of namespace %d: %04X", tag, ns, answer);
 }
 
+/* Round keys go through words, of which just these become zero, whatever they held. */
+static uint32_t words[2 * TUFFALEEN_ROUND_KEY_WORDS];
+
+static void lay_words(void)
+{
+    memset(words, UNTOUCHED, sizeof words);
+}
+
+static void check_words(void)
+{
+    size_t zeros = 0;
+    while (zeros < sizeof words / sizeof *words && words[zeros] == 0)
+        zeros++;
+    CHECK(zeros == TUFFALEEN_ROUND_KEY_WORDS, "round keys have %d words, and %d are zeroed", TUFFALEEN_ROUND_KEY_WORDS,
+          (int)zeros);
+    for (size_t i = zeros; i < sizeof words / sizeof *words; i++)
+        CHECK(words[i] == UNTOUCHED * 0x01010101u, "word %d behind the round keys is written", (int)i);
+}
+
+static void wrap(const uint8_t *opener, uint8_t *bytes)
+{
+    lay_words();
+    tuffaleen_wrap(opener, bytes, words);
+    check_words();
+}
+
+static uint16_t unwrap(const uint8_t *opener, uint8_t *bytes)
+{
+    lay_words();
+    uint16_t answer = tuffaleen_unwrap(opener, bytes, words);
+    check_words();
+    return answer;
+}
+
 /* The same bytes as `load`, the key wrapped. */
 static void load_wrapped(int ns, int tag, uint8_t slot[49])
 {
@@ -158,7 +192,7 @@ static void load_wrapped(int ns, int tag, uint8_t slot[49])
     uint8_t len = slot[0], frame[61] = {0x0E, ns, tag, 0, len};
     memcpy(frame + 5, slot + 1, len);
     memcpy(frame + 5 + len + 8, slot + 17, 32);
-    tuffaleen_wrap(kek, frame + 5 + len);
+    wrap(kek, frame + 5 + len);
     uint16_t answer = ask_frame(frame, 45 + len);
     CHECK(answer == TUFFALEEN_DONE, "wrapped load under tag %d of namespace %d: %04X", tag, ns, answer);
 }
@@ -238,11 +272,11 @@ static void check_own_kek(void)
 {
     uint8_t frame[46] = {0x0E, 1, 0, 0, 1, 0xAA};
     manage(1, 1);
-    tuffaleen_wrap(kek, frame + 6);
+    wrap(kek, frame + 6);
     uint16_t answer = ask_frame(frame, sizeof frame);
     CHECK(answer == TUFFALEEN_INTEGRITY_FAILED, "wrapped for the drive before: %04X", answer);
     memset(frame + 6, 0, 40);
-    tuffaleen_wrap(image + TUFFALEEN_KEK_AT, frame + 6);
+    wrap(image + TUFFALEEN_KEK_AT, frame + 6);
     answer = ask_frame(frame, sizeof frame);
     CHECK(answer == TUFFALEEN_DONE, "wrapped for this drive: %04X", answer);
 }
@@ -594,9 +628,9 @@ static void check_kek_lent(void)
     lay_digits(awaited, RFC_WRAPPED);
     start();
     await_as_now();
-    tuffaleen_wrap(image + TUFFALEEN_KEK_AT, bytes);
+    wrap(image + TUFFALEEN_KEK_AT, bytes);
     int same = memcmp(bytes, awaited, 40) == 0;
-    uint16_t answer = tuffaleen_unwrap(image + TUFFALEEN_KEK_AT, bytes);
+    uint16_t answer = unwrap(image + TUFFALEEN_KEK_AT, bytes);
     CHECK(same && answer == TUFFALEEN_DONE && as_awaited(), "a key wrapped and opened with the image's: %04X", answer);
 }
 
@@ -1101,7 +1135,7 @@ static void check_wrapped_size(void)
     memset(desk, UNTOUCHED, ROOM);
     lay_digits(desk + OPENER_AT, RFC_KEK);
     lay_digits(desk + BYTES_AT + 8, RFC_KEY);
-    tuffaleen_wrap(desk + OPENER_AT, desk + BYTES_AT);
+    wrap(desk + OPENER_AT, desk + BYTES_AT);
     for (int i = 0; i < ROOM - BYTES_AT; i++)
         size = desk[BYTES_AT + i] == UNTOUCHED ? size : i + 1;
     CHECK(size == TUFFALEEN_WRAPPED_BYTES, "a wrapped key has %d bytes, and is written as %d", TUFFALEEN_WRAPPED_BYTES,
@@ -1116,11 +1150,11 @@ static void check_wrapping(const uint8_t opener[32], const uint8_t open[40], con
     for (int first = 0; first < 256; first++) {
         memset(before, first, 8);
         lay_desk(opener, before, wrapped);
-        tuffaleen_wrap(desk + OPENER_AT, desk + BYTES_AT);
+        wrap(desk + OPENER_AT, desk + BYTES_AT);
         CHECK(desk_as_awaited(), "key %d is wrapped to other bytes", which);
     }
     lay_desk(opener, wrapped, open);
-    uint16_t answer = tuffaleen_unwrap(desk + OPENER_AT, desk + BYTES_AT);
+    uint16_t answer = unwrap(desk + OPENER_AT, desk + BYTES_AT);
     CHECK(answer == TUFFALEEN_DONE && desk_as_awaited(), "wrapped key %d is opened to other bytes: %04X", which,
           answer);
 }
@@ -1135,7 +1169,7 @@ static void check_spoilt(const uint8_t opener[32], const uint8_t wrapped[40], in
     for (int bit = 0; bit < 8 * (32 + 40); bit++) {
         both[bit / 8] ^= 1 << bit % 8;
         lay_desk(both, both + 32, zeros);
-        uint16_t answer = tuffaleen_unwrap(desk + OPENER_AT, desk + BYTES_AT);
+        uint16_t answer = unwrap(desk + OPENER_AT, desk + BYTES_AT);
         CHECK(answer == TUFFALEEN_INTEGRITY_FAILED, "wrapped key %d, bit %d changed: %04X", which, bit, answer);
         CHECK(answer == 0x0710 && desk_as_awaited(), "wrapped key %d, bit %d changed: bytes are left", which, bit);
         both[bit / 8] ^= 1 << bit % 8;
@@ -1165,9 +1199,9 @@ static void check_wrapped_and_opened(void)
         memset(open, 0xA6, 8);
         memcpy(open + 8, wrapped, 32);
         memcpy(wrapped, open, 40);
-        tuffaleen_wrap(opener, wrapped);
+        wrap(opener, wrapped);
         lay_desk(opener, wrapped, open);
-        uint16_t answer = tuffaleen_unwrap(desk + OPENER_AT, desk + BYTES_AT);
+        uint16_t answer = unwrap(desk + OPENER_AT, desk + BYTES_AT);
         CHECK(answer == TUFFALEEN_DONE && desk_as_awaited(), "turn %d, wrapped and opened: %04X", turn, answer);
     }
 }

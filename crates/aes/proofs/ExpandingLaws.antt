@@ -113,7 +113,8 @@ module _ (a b c d : ℕ) (ha : a < 256) (hb : b < 256) (hc : c < 256) (hd : d < 
       by false true = fourth
       by false false = refl
 
-four-of : (xs : List ℕ) (i : ℕ) → i + 4 ≤ length xs → part i 4 xs ≡ getD xs i 0 ∷ getD xs (i + 1) 0 ∷ getD xs (i + 2) 0 ∷ getD xs (i + 3) 0 ∷ []
+four-of : (xs : List ℕ) (i : ℕ) → i + 4 ≤ length xs
+    → part i 4 xs ≡ getD xs i 0 ∷ getD xs (i + 1) 0 ∷ getD xs (i + 2) 0 ∷ getD xs (i + 3) 0 ∷ []
 four-of xs i h = part-four i (i + 1) (i + 2) xs (omega arith) (omega arith) (i + 3) (omega arith) (omega arith)
 
 module _ (w : List ℕ) (n : ℕ) (hw : Bytes (32 + 4 * n) w) where

@@ -65,7 +65,8 @@ module _ (d : Registers) (keys marks : List ℕ) (ns : Namespace) (tag : Tag) wh
   s = state d keys marks
 
   -- the shared checks' refusal stands
-  pub refused-by : (r : Refusal) (o : Outcome) → found.Refused r ≡ located (state d [] []) ns tag → judged (slotChecks s ns tag) (refuse s) o ≡ refuse s r
+  pub refused-by : (r : Refusal) (o : Outcome) → found.Refused r ≡ located (state d [] []) ns tag
+      → judged (slotChecks s ns tag) (refuse s) o ≡ refuse s r
   unfolding located
   refused-by r o e = ap (λ v. settle v (refuse s) o) (verdict-of (firstRefusal (slotChecks s ns tag)) (placeOf ns tag) r e)
 

@@ -118,8 +118,9 @@ fn act(
     }
 }
 
-// Zeroes what the reading of a line, or the opening of a wrapped key, left in a frame of zeros: it may hold a key. A line that is no longer than a replace may be leaves the
-// rest alone. (Here, behind a reference, the stores stay; in the function that has the frame the compiler drops them.)
+// Zeroes what the reading of a line, or the opening of a wrapped key, left in a frame of zeros: it may hold a key. A line that is no longer
+// than a replace may be leaves the rest alone. (Here, behind a reference, the stores stay; in the function that has the frame the compiler
+// drops them.)
 fn wipe(frame: &mut [u8], line: &[u8])
     requires { ⌜ length (now frame) ≡ digitsMost / 2 ⌝ }
     ensures { λ _. ⌜ (drop replaceMost (now (frame .entry)) ≡ drop replaceMost (readFrom (now (line .entry)) (zeros (digitsMost / 2)) .frame)

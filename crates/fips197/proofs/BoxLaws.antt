@@ -9,7 +9,8 @@ use native.Mathlib.Nat.{mod-lt, zero-lt-suc}
 use native.Mathlib.Omega.{arith}
 use lib.ListN.{getD}
 use lib.Dec.{eqb, lit<}
-use Rattle.rules.specs.AesBytes.{_⊕_, ifSet, xTimes, productBelow, _•_, squares, inverse, bit, bitsSet, affineBelow, affine, subByte, invAffine, invSubByte}
+use Rattle.rules.specs.AesBytes.{_⊕_, ifSet, xTimes, productBelow, _•_, squares, inverse, bit, bitsSet, affineBelow, affine, subByte}
+use Rattle.rules.specs.AesBytes.{invAffine, invSubByte}
 use Rattle.fips197.specs.Boxes.{sbox, invSbox}
 use Rattle.fips197.proofs.BytesLaws.{allBelow, agree}
 use Rattle.fips197.proofs.ProductLaws.{inverse-byte}

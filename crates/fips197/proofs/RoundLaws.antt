@@ -6,7 +6,8 @@ use mathlib.Core.List.{List, [], _∷_, _++_, map}
 use Prim.Native.Nat.{ℕ, zero, suc, _+_, _-_, _*_, _/_, _%_, _≤_, _<_}
 use lib.ListN.{length, getD}
 use Rattle.rules.specs.AesBytes.{_⊕_, subByte, invSubByte}
-use Rattle.rules.specs.Aes.{_⊞_, at, places, state, subBytes, invSubBytes, shiftRows, invShiftRows, byMatrix, columns, mixColumns, invMixColumns, addRoundKey}
+use Rattle.rules.specs.Aes.{_⊞_, at, places, state, subBytes, invSubBytes, shiftRows, invShiftRows, byMatrix, columns, mixColumns}
+use Rattle.rules.specs.Aes.{invMixColumns, addRoundKey}
 use Rattle.rules.specs.AesPromises.{Small, Bytes}
 use Rattle.fips197.proofs.XorLaws.{⊞-back}
 use Rattle.fips197.proofs.BytesLaws.{listed, from, append-bytes, map-bytes, xor-bytes}

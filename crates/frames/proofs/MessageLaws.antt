@@ -23,7 +23,8 @@ use Rattle.rules.specs.Fields.{byte, bytes, little}
 use Rattle.rules.specs.State.{namespace, keyTag}
 use Rattle.rules.specs.Slots.{Contents}
 use Rattle.rules.specs.Kmip.{loadOf}
-use Rattle.rules.specs.Frames.{Reading, load, badUidLength, bringsNothing, brought, readLoad, readWrapped, readReplace, readMessage, unknownKind, kinds, readFrame}
+use Rattle.rules.specs.Frames.{Reading, load, badUidLength, bringsNothing, brought, readLoad, readWrapped, readReplace, readMessage}
+use Rattle.rules.specs.Frames.{unknownKind, kinds, readFrame}
 use Rattle.rules.proofs.ChecksLaws.{then-pass}
 use Rattle.rules.proofs.KmipLaws.{load-key}
 use Rattle.kmip.specs.declared.MessageRead.{MessageRead}

@@ -38,7 +38,8 @@ use Rattle.rules.proofs.SlotsLaws.{bytesOf}
 use Rattle.rules.proofs.SoundLaws.{above-set, unallocated-zero, sound-cache, sound-counts, sound-total, sound-slot}
 use Rattle.rules.proofs.EffectsLaws.{named-slot, slot-fits, store-same, store-other, empty-same, empty-other, emptied-same, emptied-other}
 use Rattle.rules.proofs.EffectsLaws.{all-emptied, zeroed-same, zeroed-other, covered-same, covered-other, count-same, count-other, sized-count}
-use Rattle.rules.proofs.EffectsLaws.{sized-store, sized-empty, sized-emptied, sized-all, sized-zeroed, sized-covered, store-kek, empty-kek, emptied-kek, all-kek}
+use Rattle.rules.proofs.EffectsLaws.{sized-store, sized-empty, sized-emptied, sized-all, sized-zeroed, sized-covered, store-kek}
+use Rattle.rules.proofs.EffectsLaws.{empty-kek, emptied-kek, all-kek}
 
 -- a wrapped key that opens is a key
 pub opened-fit : (s : State) (x : Contents) → FitWrapped x → bringsNothing (opened (keyEncryptionKey s) x) ≡ false

@@ -13,7 +13,8 @@ use lib.Seq.{getD-set-same, getD-set-other}
 use lib.Dec.{leb}
 use borrow.Author.Tests.{eq-eqb, leb-true, leb-false, le-leb}
 use Rattle.cells.specs.Cells.{copies, cell, put, fill}
-use Rattle.cells.proofs.CellsLaws.{length-zeros, length-copies, drop-write, length-put, cell-put-same, cell-put-other, length-fill, cell-fill-in, cell-fill-out}
+use Rattle.cells.proofs.CellsLaws.{length-zeros, length-copies, drop-write, length-put, cell-put-same, cell-put-other, length-fill}
+use Rattle.cells.proofs.CellsLaws.{cell-fill-in, cell-fill-out}
 use Rattle.cells.proofs.PredicatesLaws.{and-left, and-right}
 use Rattle.rules.specs.declared.Namespace.{Namespace}
 use Rattle.rules.specs.declared.Tag.{Tag}
@@ -129,7 +130,8 @@ module _ (s : State) (whole : length (s .keys) ≡ cacheSize) where
   fill-kek : (i n : ℕ) → i + n ≤ slotPlaces → KekStays (fill slotWidth i n emptied (s .keys))
   unfolding fill
   fill-kek i n h =
-      drop-write (i * slotWidth) (n * slotWidth) (copies n emptied) (s .keys) (omega (arith, whole)) (length-copies slotWidth n emptied (length-zeros slotWidth))
+      drop-write (i * slotWidth) (n * slotWidth) (copies n emptied) (s .keys) (omega (arith, whole))
+      (length-copies slotWidth n emptied (length-zeros slotWidth))
       slotsSize (omega arith)
 
   pub store-kek : (n : Namespace) (t : Tag) → IsSlot n t → (x : Contents) → FitKey x → keyEncryptionKey (storeKey s n t x) ≡ keyEncryptionKey s

@@ -31,6 +31,7 @@ unfolding part write zeros copies cell put fill same allZero someFrom someCell f
     storeKey emptySlot emptySlots emptyAllSlots zeroMarks markCovered manage release clearAll load replace clearOne wrongKey command setFeatures
     headerBytes tperBytes keyPerIoBytes response ownHeader ownTper ownKeyPerIo ownFields
     getFeatures bootWrite reset discovery frameRule lineRule freshRegisters roomFor unanswered answered call linesOf endState answersTo answerLines roomForAll
-    readMessage readWrapped loadWrapped bigEndian isValue frontOf front withValue withStructure onFront readBy readAt from valueThen structureThen inOrder lacks eachVendored named
+    readMessage readWrapped loadWrapped bigEndian isValue frontOf front withValue withStructure onFront readBy readAt from valueThen structureThen
+    inOrder lacks eachVendored named
     isRequest loadIn noSession allAnswered session codes rightOn allRightOn table sessionRight
 examples-right = (all-right-on table ∙ refl, refl)

@@ -37,7 +37,8 @@ use Rattle.rules.proofs.FramesLaws.{Fit}
 use Rattle.rules.proofs.SlotsLaws.{bytesOf, FitHeld, held-bytes, uid-stored, key-stored, same-key, no-other-key}
 use Rattle.rules.proofs.SoundLaws.{sound-from, sound-emptied}
 use Rattle.rules.proofs.EffectsLaws.{named-slot}
-use Rattle.rules.proofs.AcceptedLaws.{accepts, opened-fit, kek-effect, in-namespace, key-checks, sized-effect, touched, untouched, Storable, storable, count-effect}
+use Rattle.rules.proofs.AcceptedLaws.{accepts, opened-fit, kek-effect, in-namespace, key-checks, sized-effect, touched, untouched}
+use Rattle.rules.proofs.AcceptedLaws.{Storable, storable, count-effect}
 use Rattle.rules.proofs.AcceptedLaws.{markAfter, mark-effect}
 use Rattle.rules.proofs.TakenLaws.{refused-or-taken, sound-effect}
 
@@ -110,7 +111,8 @@ module _ (kek : List ℕ) (size : length kek ≡ kekSize) where
 -- ------------------------------------------------------------------------
 -- A refused line
 
-pub kept-refused : (kek : List ℕ) (s : State) (h : List Event) (line : List ℕ) (r : Refusal) → Kept kek s h → Kept kek s (record { line = line; answer = Refused r } ∷ h)
+pub kept-refused : (kek : List ℕ) (s : State) (h : List Event) (line : List ℕ) (r : Refusal) → Kept kek s h
+    → Kept kek s (record { line = line; answer = Refused r } ∷ h)
 unfolding holds lastWritten tagCount
 kept-refused kek s h line r k = record {
   key = k .key;
@@ -148,7 +150,8 @@ cond-fit : (b : Bool) (x y : Held) → FitHeld x → FitHeld y → FitHeld (cond
 cond-fit true x y p q = p
 cond-fit false x y p q = q
 
-written-fit : (kek : List ℕ) (ns : Namespace) (block : ℕ) (f : Frame) (h : List Event) (x : Held) → ((tag : Tag) → FitHeld (holds kek ns tag h)) → FitHeld x
+written-fit : (kek : List ℕ) (ns : Namespace) (block : ℕ) (f : Frame) (h : List Event) (x : Held)
+    → ((tag : Tag) → FitHeld (holds kek ns tag h)) → FitHeld x
     → FitHeld (writtenAfter kek ns block f h x)
 written-fit kek ns block (manage n tags) h x p q = cond-fit (sameNamespace ns n) nothing x tt q
 written-fit kek ns block (release n) h x p q = q
@@ -304,7 +307,8 @@ module _ (kek : List ℕ) (e : Event) (h : List Event) (took : accepted (e .answ
   unfolding holds
   holds-next ns tag = rw took
 
-  written-next : (ns : Namespace) (block : ℕ) → lastWritten kek ns block (e ∷ h) ≡ writtenAfter kek ns block (frameOf (e .line)) h (lastWritten kek ns block h)
+  written-next : (ns : Namespace) (block : ℕ)
+      → lastWritten kek ns block (e ∷ h) ≡ writtenAfter kek ns block (frameOf (e .line)) h (lastWritten kek ns block h)
   unfolding lastWritten
   written-next ns block = rw took
 

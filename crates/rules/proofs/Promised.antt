@@ -19,8 +19,8 @@ use Rattle.rules.specs.declared.Namespace.{Namespace}
 use Rattle.rules.specs.declared.Tag.{Tag}
 use Rattle.rules.specs.declared.Answer.the-variants.{Done, Refused}
 use Rattle.rules.specs.declared.Command.{Command}
-use Rattle.rules.specs.Numbers.{blocksEach, slotsSize, storeSize}
-use Rattle.rules.specs.Checks.{Check, _when_, judged, onlyIf, AllPass}
+use Rattle.rules.specs.Numbers.{namespaces, blocksEach, slotsSize, storeSize}
+use Rattle.rules.specs.Checks.{Check, _when_, judged, onlyIf, AllPass, FirstToFail}
 use Rattle.rules.specs.Answers.{lineFeed, 00·28, 07·10}
 use Rattle.rules.specs.State.{State, Outcome, Rule, Sized, refuse, obey, keyEncryptionKey, noNamespace, managed, tagAbove, IsNamespace}
 use Rattle.rules.specs.Slots.{Contents, IsSlot, slot, otherKey, empty, loaded, uidOf, keyOf, contentsOf, Held, nothing, holding, uidHeld, held}
@@ -32,14 +32,15 @@ use Rattle.rules.specs.Sound.{unsound}
 use Rattle.rules.specs.Effects.{emptyAllSlots}
 use Rattle.rules.specs.Order as order
 use Rattle.rules.specs.Order.{frameRule, frameOf, lineRule, step, slotChecks, withUid, opened, isReading, commandChecks, keyChecks, markCheck, wrongKey}
-use Rattle.rules.specs.Call.{callChecks, roomFor, Called, unanswered, answered}
-use Rattle.rules.specs.Sessions.{joined, linesOf, endState, Session, noSession, allAnswered}
+use Rattle.rules.specs.Call.{callChecks, roomFor, Called, unanswered, answered, call}
+use Rattle.rules.specs.Sessions.{joined, linesOf, endState, Session, noSession, allAnswered, session}
 use Rattle.rules.specs.Start.{fresh, freshWith, emptiedCache, startChecks, start}
 use Rattle.rules.specs.Promises.{NumbersAsNamed, NoneFed, EndsUnfed, GiveBack, LinesOfText}
 use Rattle.rules.specs.Promises.{Starts, StartRefusedWhen, StartRefusedKeeps, StartsFresh}
 use Rattle.rules.specs.History.{Event, holds, covers, lastWritten}
 use Rattle.rules.specs.Promises.{Calls, Sessions, FromFresh, Steps, checksOf, sessionChecks, RefusedWhen, DoneWhen, RefusedKeeps, Writes}
-use Rattle.rules.specs.Promises.{SessionRefusedWhen, SessionRefusedKeeps, SessionAnswers, KekStays, SessionKekStays, SlotAsTold, OneKeyForAKeyUid, CountAsTold, NeverUnsound}
+use Rattle.rules.specs.Promises.{SessionRefusedWhen, SessionRefusedKeeps, SessionAnswers, KekStays, SessionKekStays, SlotAsTold}
+use Rattle.rules.specs.Promises.{OneKeyForAKeyUid, CountAsTold, NeverUnsound}
 use Rattle.rules.specs.Promises.{SameKeyUidOrNever, LoadFindsNothing, PoolTooSmallWhen, SoundKept, HeldUntilPowerCycle, ControllerResetKeeps}
 use Rattle.rules.specs.Promises.{PowerCycleLocks, MarkTellsKeyUid, IntegrityFailsWhen, WrappedLoadsAsClear}
 use Rattle.rules.proofs.ChecksLaws.{judged-append, judged-pass, judged-cases, judged-map, by-verdict}
@@ -184,12 +185,20 @@ refused-keeps s line out o l r p =
     ap (λ (x : Outcome). x .state) e
     ∙ state.refused-keeps s (callRule s line out) r (accepts-line s line) (sym (ap (λ (x : Outcome). x .answer) e) ∙ p)
 
+module _ (s : State) (line out : List ℕ) (o : Called) (l : o ≡ call s line out) where
+  unread-kek : (r : Refusal) → FirstToFail (callChecks s (roomFor line) out) r → keyEncryptionKey (o .state) ≡ keyEncryptionKey s
+  unfolding unanswered
+  unread-kek r f = ap (λ (c : Called). keyEncryptionKey (c .state)) (l ∙ call-unread s line out r f)
+
+  read-kek : AllPass (callChecks s (roomFor line) out) → keyEncryptionKey (o .state) ≡ keyEncryptionKey s
+  unfolding answered
+  read-kek p = ap (λ (c : Called). keyEncryptionKey (c .state)) (l ∙ call-read s line out p) ∙ kek-step s line (p .1 .1 .0)
+
 pub kek-stays : KekStays Calls
-unfolding unanswered answered
 kek-stays s line out o l =
     ⊎-elim
-    (λ f. ap (λ (c : Called). keyEncryptionKey (c .state)) (l ∙ call-unread s line out (f .0) (f .1 .0)))
-    (λ p. ap (λ (c : Called). keyEncryptionKey (c .state)) (l ∙ call-read s line out (p .0)) ∙ kek-step s line (p .0 .1 .1 .0))
+    (λ f. unread-kek s line out o l (f .0) (f .1 .0))
+    (λ p. read-kek s line out o l (p .0))
     (by-verdict (callChecks s (roomFor line) out) Refused Done)
 
 pub writes : Writes Calls
@@ -221,20 +230,27 @@ lines-kek (line ∷ lines) s sized sound =
     let next = sound-step s line sized sound in
     lines-kek lines (step s line .state) (next .0) (next .1) ∙ kek-step s line sound
 
+module _ (s : State) (text out : List ℕ) (o : Session) (l : o ≡ session s text out) (counts : length (s .registers .counts) ≡ namespaces) where
+  refused-kek : (r : Refusal) → FirstToFail (sessionChecks s text out) r → keyEncryptionKey (o .state) ≡ keyEncryptionKey s
+  unfolding noSession
+  refused-kek r f = ap (λ (c : Session). keyEncryptionKey (c .state)) (l ∙ session-unread s text out r f)
+
+  ran-kek : AllPass (sessionChecks s text out) → keyEncryptionKey (o .state) ≡ keyEncryptionKey s
+  unfolding allAnswered
+  ran-kek p =
+      let sized : Sized s = record {
+        counts = counts;
+        cache = sound-cache s (p .1 .1 .0);
+        store = eqb-true (length (s .marks)) storeSize (not-false _ (p .1 .0));
+      } in
+      ap (λ (c : Session). keyEncryptionKey (c .state)) (l ∙ session-ran s text out p) ∙ lines-kek (linesOf text) s sized (p .1 .1 .0)
+
 pub session-kek-stays : SessionKekStays Sessions
-unfolding noSession allAnswered
 session-kek-stays s text out o l counts =
     ⊎-elim
-    (λ f. ap (λ (c : Session). keyEncryptionKey (c .state)) (l ∙ session-unread s text out (f .0) (f .1 .0)))
-    (λ p. ap (λ (c : Session). keyEncryptionKey (c .state)) (l ∙ session-ran s text out (p .0)) ∙ lines-kek (linesOf text) s (sized (p .0)) (p .0 .1 .1 .0))
+    (λ f. refused-kek s text out o l counts (f .0) (f .1 .0))
+    (λ p. ran-kek s text out o l counts (p .0))
     (by-verdict (sessionChecks s text out) Refused Done)
-  where
-    sized : AllPass (sessionChecks s text out) → Sized s
-    sized p = record {
-      counts = counts;
-      cache = sound-cache s (p .1 .1 .0);
-      store = eqb-true (length (s .marks)) storeSize (not-false _ (p .1 .0));
-    }
 
 pub session-answers : SessionAnswers Sessions
 unfolding allAnswered

@@ -190,7 +190,8 @@ abbrev Left : List ℕ → Bool → ℕ → State → List ℕ → Type 0
 Left image none at s left = (length (s .keys) ≡ length (lentFrom at image)) × (left ≡ savedOver none (s .registers) (backFrom at image (s .keys)))
 
 module _ {at : ℕ} (image marks : List ℕ) where
-  pub c-started : (kek : List ℕ) {o : Outcome} {n : ℕ} {left : List ℕ} → at ≡ keysAt (wrongLength image) image → o ≡ start kek (lentFrom at image) marks
+  pub c-started : (kek : List ℕ) {o : Outcome} {n : ℕ} {left : List ℕ} → at ≡ keysAt (wrongLength image) image
+      → o ≡ start kek (lentFrom at image) marks
       → Left image (wrongLength image) at (o .state) left → n ≡ number (o .answer)
       → _≡_ {A = CStarted} (record { number = n; image = left; marks = o .state .marks }) (cStart kek image marks)
   unfolding cStart

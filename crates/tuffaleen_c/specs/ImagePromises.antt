@@ -26,7 +26,8 @@ SameState = (s : State) → Sized s → (noImage (imageOf s) ≡ false) × (stat
 
 -- A start on an image of another length changes nothing; a start with a wrong store leaves the fresh image and the store as it was.
 abbrev pub StartKeeps : Type 0
-StartKeeps = (kek image marks : List ℕ) → wrongLength image ≡ true → (cStart kek image marks .image ≡ image) × (cStart kek image marks .marks ≡ marks)
+StartKeeps = (kek image marks : List ℕ) → wrongLength image ≡ true
+    → (cStart kek image marks .image ≡ image) × (cStart kek image marks .marks ≡ marks)
 
 abbrev pub StartFresh : Type 0
 StartFresh =

@@ -290,7 +290,8 @@ module _ (w : List ℕ) (hw : Bytes 240 w) where
         let f = cipherBy mixTable sbox (wordsOf w 60) in
         let x : f (blockAt (i * 8) s) ≡ blockOf coded = ap f (block-is s hs i (omega arith) (omega arith)) ∙ cipherBy-is w hw _ (joined _ a) in
         ap (λ b. putBlock (i * 8) (counted t b) s) x
-        ∙ put-is s hs i (omega arith) (omega arith) (counted t (blockOf coded)) _ _ (counted-half coded coded-bytes t (omega arith)) (back-half coded coded-bytes)
+        ∙ put-is s hs i (omega arith) (omega arith) (counted t (blockOf coded)) _ _ (counted-half coded coded-bytes t (omega arith))
+        (back-half coded coded-bytes)
 
     unwrap-step-is : unwrapStepBy (invCipherBy invMixTable invSbox (unmixedBy invMixTable sbox (wordsOf w 60))) t s ≡ unwrapStep w t s
     unfolding unwrapStep

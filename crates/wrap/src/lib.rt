@@ -34,7 +34,8 @@ pub fn wrap(kek: &[u8], bytes: &mut [u8], w: &mut [u32; SCHEDULE])
 
 // Whether the 40 bytes are a wrapped key. If they are, the key comes to stand in the last 32; if not, all become zero.
 pub fn unwrap(kek: &[u8], bytes: &mut [u8], w: &mut [u32; SCHEDULE]) -> bool
-    ensures { λ r. ⌜ (record { opened = r; bytes = now (bytes .exit) } ≡ openedIn (now (kek .entry)) (now (bytes .entry))) × (now (w .exit) ≡ zeros 60) ⌝ }
+    ensures { λ r. ⌜ (record { opened = r; bytes = now (bytes .exit) } ≡ openedIn (now (kek .entry)) (now (bytes .entry))) ×
+        (now (w .exit) ≡ zeros 60) ⌝ }
 {
     if !sized(kek.len(), bytes.len()) {
         aes::wipe(w);

@@ -58,9 +58,9 @@ extern "C" {
         written: *mut usize,
     ) -> u16;
 
-    fn tuffaleen_wrap(kek: *const u8, bytes: *mut u8);
+    fn tuffaleen_wrap(kek: *const u8, bytes: *mut u8, words: *mut u32);
 
-    fn tuffaleen_unwrap(kek: *const u8, bytes: *mut u8) -> u16;
+    fn tuffaleen_unwrap(kek: *const u8, bytes: *mut u8, words: *mut u32) -> u16;
 }
 
 /// The number.
@@ -149,13 +149,21 @@ pub fn message(ns: u8, tag: u16, key_uid: &[u8], key: &[u8], out: &mut [u8]) -> 
     (number, written)
 }
 
+/// What round keys go through; whatever it held, nothing may be left of them.
+const WORDS: [u32; 60] = [0x5A5A_5A5A; 60];
+
 pub fn wrap(kek: &[u8; KEK], bytes: &mut [u8; WRAPPED]) {
-    // SAFETY: the arrays have 32 and 40 bytes and do not overlap.
-    unsafe { tuffaleen_wrap(kek.as_ptr(), bytes.as_mut_ptr()) }
+    let mut words = WORDS;
+    // SAFETY: the arrays have 32 and 40 bytes and 60 words and do not overlap.
+    unsafe { tuffaleen_wrap(kek.as_ptr(), bytes.as_mut_ptr(), words.as_mut_ptr()) }
+    assert!(words == [0; 60], "round keys are left");
 }
 
 /// The number.
 pub fn unwrap(kek: &[u8; KEK], bytes: &mut [u8; WRAPPED]) -> u16 {
-    // SAFETY: the arrays have 32 and 40 bytes and do not overlap.
-    unsafe { tuffaleen_unwrap(kek.as_ptr(), bytes.as_mut_ptr()) }
+    let mut words = WORDS;
+    // SAFETY: the arrays have 32 and 40 bytes and 60 words and do not overlap.
+    let number = unsafe { tuffaleen_unwrap(kek.as_ptr(), bytes.as_mut_ptr(), words.as_mut_ptr()) };
+    assert!(words == [0; 60], "round keys are left");
+    number
 }

@@ -31,7 +31,8 @@ returns c =
     let k : tie.After-keys-at = search in
     let s : tie.Start = search in
     let a = s .args in
-    c-started (a .image .now) (a .marks .now) (a .kek .now) (k .keys-at .ensures) (r .start .ensures) (r .start .kept .1 .0, v .save .ensures) (c .number .ensures)
+    c-started (a .image .now) (a .marks .now) (a .kek .now) (k .keys-at .ensures) (r .start .ensures) (r .start .kept .1 .0, v .save .ensures)
+    (c .number .ensures)
 
 pub tuffaleen-start-spec : {M : Type 1} → statement M
 tuffaleen-start-spec =

@@ -14,16 +14,22 @@ returns c =
     let s : tie.Start = search in
     let a = s .args in
     let u : tie.After-unwrap = search in
-    let t : tie.Then1 = search in
-    (c-opened (a .kek .now) (a .bytes .now) _ (omega arith) (omega arith) _ (rw (t .if1 .taken) at (u .unwrap .ensures .0)) (c .number .ensures), u .unwrap .ensures .1)
+    let t : tie.Then1 = search in (
+      c-opened (a .kek .now) (a .bytes .now) _ (omega arith) (omega arith) _ (rw (t .if1 .taken) at (u .unwrap .ensures .0))
+          (c .number .ensures),
+      u .unwrap .ensures .1,
+    )
 
 returns-2 : tie.Need-returns-2
 returns-2 c =
     let s : tie.Start = search in
     let a = s .args in
     let u : tie.After-unwrap = search in
-    let t : tie.Else1 = search in
-    (c-shut (a .kek .now) (a .bytes .now) _ (omega arith) (omega arith) _ (rw (t .if1 .left) at (u .unwrap .ensures .0)) (c .number2 .ensures), u .unwrap .ensures .1)
+    let t : tie.Else1 = search in (
+      c-shut (a .kek .now) (a .bytes .now) _ (omega arith) (omega arith) _ (rw (t .if1 .left) at (u .unwrap .ensures .0))
+          (c .number2 .ensures),
+      u .unwrap .ensures .1,
+    )
 
 pub tuffaleen-unwrap-spec : {M : Type 1} → statement M
 tuffaleen-unwrap-spec =

@@ -27,7 +27,8 @@ loop-again c =
     let t = s .args .table .now in
     let w = s .args .w .now in
     let r = at-loop .loop .r in (
-      ap (backBy t w (r - 1)) (c .round .ensures ∙ ap (roundOf t (at-loop .loop .s)) (at-mirrored .mirrored .ensures ∙ ap mirrored (at-key .key-at .ensures)))
+      ap (backBy t w (r - 1))
+          (c .round .ensures ∙ ap (roundOf t (at-loop .loop .s)) (at-mirrored .mirrored .ensures ∙ ap mirrored (at-key .key-at .ensures)))
           ∙ back-more t w r (at-loop .loop .s) (omega arith) ∙ at-loop .loop .inv .0,
       omega arith,
     )

@@ -21,7 +21,8 @@ returns c =
     let l : tie.After-loaded = search in
     let t : tie.Then1 = search in
     let size = cache-of (a .registers) (a .keys .now) (s .pre .2) in
-    let full : loaded (cell slotWidth (a .place) (a .keys .now)) ≡ true = loaded-by (a .keys .now) size (a .place) (s .pre .0) _ (l .loaded .ensures) ∙ t .if1 .taken in
+    let full : loaded (cell slotWidth (a .place) (a .keys .now)) ≡ true =
+    loaded-by (a .keys .now) size (a .place) (s .pre .0) _ (l .loaded .ensures) ∙ t .if1 .taken in
     rw (c .refused .ensures, full)
 
 returns-2 : tie.Need-returns-2
@@ -34,7 +35,8 @@ returns-2 c =
     let e : tie.Else1 = search in
     let p : tie.After-put = search in
     let size = cache-of (a .registers) (a .keys .now) (s .pre .2) in
-    let free : loaded (cell slotWidth (a .place) (a .keys .now)) ≡ false = loaded-by (a .keys .now) size (a .place) (s .pre .0) _ (l .loaded .ensures) ∙ e .if1 .left in
+    let free : loaded (cell slotWidth (a .place) (a .keys .now)) ≡ false =
+    loaded-by (a .keys .now) size (a .place) (s .pre .0) _ (l .loaded .ensures) ∙ e .if1 .left in
     rw free (p .put .ensures marks)
 
 pub load-at-spec : {M : Type 1} → statement M

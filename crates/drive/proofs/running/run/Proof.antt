@@ -14,12 +14,14 @@ use Rattle.drive.proofs.running.run.Statement.{statement}
 use Rattle.drive.proofs.running.run.Tie as tie
 
 abbrev Inv-loop : tie.InvT-loop
-Inv-loop keys₀ marks₀ text out₀ frame₀ brought₀ words₀ registers₀ at₀ lines₀ bytes₀ keys marks out frame brought words registers at lines bytes =
+Inv-loop keys₀ marks₀ text out₀ frame₀ brought₀ words₀ registers₀ at₀ lines₀ bytes₀ keys marks out frame brought words
+    registers at lines bytes =
     Mid (state registers₀ keys₀ marks₀) text out₀ (state registers keys marks) at lines bytes out × Ready registers keys marks
     × (frame ≡ zeros (digitsMost / 2)) × (words ≡ zeros 60)
 
 abbrev μ-loop : tie.MeasureT-loop
-μ-loop keys₀ marks₀ text out₀ frame₀ brought₀ words₀ registers₀ at₀ lines₀ bytes₀ keys marks out frame brought words registers at lines bytes =
+μ-loop keys₀ marks₀ text out₀ frame₀ brought₀ words₀ registers₀ at₀ lines₀ bytes₀ keys marks out frame brought words
+    registers at lines bytes =
     length text - at
 
 loop-holds : tie.Need-loop-holds Inv-loop μ-loop

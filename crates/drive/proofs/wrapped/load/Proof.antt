@@ -18,7 +18,8 @@ opened-requires c κs =
     let a = s .args in
     let l : tie.After-locate = search in
     let p : tie.After-enum-told = search in
-    let is : found.Place (p .enum-told .given .0 .0) ≡ located (state (a .registers) [] []) (a .ns) (a .tag) = sym (p .enum-told .given .1) ∙ l .locate .ensures in
+    let is : found.Place (p .enum-told .given .0 .0) ≡ located (state (a .registers) [] []) (a .ns) (a .tag) =
+    sym (p .enum-told .given .1) ∙ l .locate .ensures in
     (s .pre .0, s .pre .1, found-passes (a .registers) (a .keys .now) [] (a .ns) (a .tag) (p .enum-told .given .0 .0) is)
 
 returns : tie.Need-returns

@@ -60,7 +60,8 @@ returns-4 c =
     let f = s .args .f .now in
     rw (ns .namespace-of .ensures, c .word .ensures)
     (ap (Load (namespace (byte 1 f)) (keyTag (bytes 2 3 f))) (sym (length-part 5 (byte 4 f) f (omega arith)))
-    ∙ load-right f keySize (load (namespace (byte 1 f)) (keyTag (bytes 2 3 f)) (contentsAt keySize 5 (byte 4 f) f)) (h .if1 .left) (good-uid _ (n .if2 .left) (g .if3 .left))
+    ∙ load-right f keySize (load (namespace (byte 1 f)) (keyTag (bytes 2 3 f)) (contentsAt keySize 5 (byte 4 f) f)) (h .if1 .left)
+    (good-uid _ (n .if2 .left) (g .if3 .left))
     (e .if4 .left))
 
 pub load-spec : {M : Type 1} → statement M
