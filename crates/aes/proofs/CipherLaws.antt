@@ -1,14 +1,13 @@
 -- The cipher by the right tables is FIPS 197's, and so is its inverse.
 -- Assumes nothing.
 use mathlib.Core.Path.{_≡_, refl, sym, ap, ap₂, _∙_}
-use mathlib.Core.List.{List, [], _∷_, _++_}
+use mathlib.Core.List.{List}
 use mathlib.Core.Bool.{cond}
-use Prim.Native.Nat.{ℕ, zero, suc, _+_, _*_, _≤_, _<_}
+use Prim.Native.Nat.{ℕ, zero, suc, _≤_}
 use native.Mathlib.Omega.{arith}
 use lib.ListN.{length, getD}
 use lib.Dec.{eqb}
 use borrow.Author.Tests.{eq-eqb}
-use Rattle.rules.specs.AesBytes.{_⊕_}
 use Rattle.rules.specs.Aes.{_⊞_, subBytes, invSubBytes, shiftRows, invShiftRows, mixColumns, invMixColumns, addRoundKey, keyExpansion, roundKey}
 use Rattle.rules.specs.Aes.{rounds, cipherWith, invRounds, invCipherWith, cipher, invCipher}
 use Rattle.rules.specs.AesPromises.{Bytes}
@@ -17,9 +16,9 @@ use Rattle.fips197.proofs.BytesLaws.{listed, from}
 use Rattle.fips197.proofs.RoundLaws.{invMix-⊞, invMix-bytes, key-bytes}
 use Rattle.fips197.proofs.KeyLaws.{expansion-bytes, round-key}
 use Rattle.fips197.proofs.CipherLaws.{invInner-bytes, rounds-bytes, invRound-bytes, invRounds-bytes}
-use Rattle.aes.specs.Words.{word4, wordAt, blockOf, bytesOf, Fit}
+use Rattle.aes.specs.Words.{blockOf, bytesOf, Fit}
 use Rattle.aes.specs.Tables.{mixTable, invMixTable}
-use Rattle.aes.specs.ByTables.{added, mirrored, roundOf, lastOf, keyAt, roundsBy, backBy, cipherBy, invCipherBy, wordsOf, expandedBy, unmixedBy}
+use Rattle.aes.specs.ByTables.{added, mirrored, roundOf, lastOf, roundsBy, backBy, cipherBy, invCipherBy, wordsOf, expandedBy, unmixedBy}
 use Rattle.aes.specs.declared.Block.{Block}
 use Rattle.aes.proofs.WordsLaws.{xor-word, block-bytes, block-whole, bytes-whole, block-fits}
 use Rattle.aes.proofs.ColumnsLaws.{round-is, last-is, invLast-is, invRound-is}

@@ -2,27 +2,23 @@
 -- is a round of FIPS 197, and, with the columns mirrored, a round of its inverse.
 -- Assumes nothing.
 use mathlib.Core.Path.{_≡_, refl, sym, ap, ap₂, _∙_}
-use mathlib.Core.List.{List, [], _∷_, _++_, map}
-use Prim.Native.Nat.{ℕ, _+_, _-_, _*_, _/_, _%_, _<_}
+use mathlib.Core.List.{List, map}
+use Prim.Native.Nat.{ℕ, _-_, _/_, _%_, _<_}
 use native.Mathlib.Omega.{arith}
-use lib.ListN.{length, getD, List·getD-map}
+use lib.ListN.{getD, List·getD-map}
 use Rattle.rules.specs.Fields.{fourBytes}
 use Rattle.rules.specs.AesBytes.{_⊕_, ifSet, xTimes, productBelow, _•_, subByte, invSubByte}
 use Rattle.rules.specs.Aes.{_⊞_, state, subBytes, invSubBytes, shiftRows, invShiftRows, byMatrix, columns, mixColumns, invMixColumns, addRoundKey}
-use Rattle.rules.specs.AesPromises.{Bytes}
 use Rattle.fips197.specs.Boxes.{sbox, invSbox}
-use Rattle.fips197.proofs.BytesLaws.{listed}
 use Rattle.fips197.proofs.XorLaws.{⊕-byte}
 use Rattle.fips197.proofs.ProductLaws.{•-byte}
 use Rattle.fips197.proofs.MixLaws.{matrix-bytes}
 use Rattle.fips197.proofs.BoxLaws.{sbox-rule, invSbox-rule, sub-byte, invSub-byte, sub-back}
-use Rattle.fips197.proofs.RoundLaws.{invMix-⊞, invMix-bytes}
-use Rattle.fips197.proofs.CipherLaws.{invInner-bytes}
 use Rattle.aes.specs.Words.{word4, wordAt, blockOf, bytesOf, Fit}
 use Rattle.aes.specs.Tables.{mixedBy, mixTable, invMixTable}
-use Rattle.aes.specs.ByTables.{turned1, turned2, turned3, columnOf, substitutedOf, added, mirrored, roundOf, lastOf, subWordBy, unmixedWord}
+use Rattle.aes.specs.ByTables.{turned1, turned2, turned3, columnOf, substitutedOf, mirrored, roundOf, lastOf, subWordBy, unmixedWord}
 use Rattle.aes.specs.declared.Block.{Block}
-use Rattle.aes.proofs.WordsLaws.{word-whole, first-byte, second-byte, third-byte, last-byte, word-fits, block-bytes}
+use Rattle.aes.proofs.WordsLaws.{word-whole, first-byte, second-byte, third-byte, last-byte, word-fits}
 use Rattle.aes.proofs.WordsLaws.{turned1-word, turned2-word, turned3-word, xor-word}
 
 -- ------------------------------------------------------------------------

@@ -15,16 +15,14 @@ use Rattle.cells.specs.Cells.{part}
 use Rattle.cells.proofs.CellsLaws.{getD-part, length-part, part-four}
 use Rattle.rules.specs.AesBytes.{_⊕_, subByte}
 use Rattle.rules.specs.Aes.{_⊞_, subBytes, byMatrix, columns, invMixColumns, wordOf, rotWord, roundConstants, rcon, turned, expanded, keyExpansion, roundKey}
-use Rattle.rules.specs.AesPromises.{Small, Bytes}
+use Rattle.rules.specs.AesPromises.{Bytes}
 use Rattle.fips197.specs.Boxes.{sbox}
-use Rattle.fips197.proofs.XorLaws.{⊕-zero}
 use Rattle.fips197.proofs.BytesLaws.{from, part-bytes}
 use Rattle.fips197.proofs.BoxLaws.{sub-byte, sbox-rule}
 use Rattle.fips197.proofs.KeyLaws.{expanded-bytes, turned-bytes, round-key}
 use Rattle.aes.specs.Words.{word4, wordAt, blockOf}
 use Rattle.aes.specs.Tables.{invMixTable}
 use Rattle.aes.specs.ByTables.{turned3, subWordBy, wordsOf, turnedBy, expandedBy, unmixedWord, unmixedBy, keyAt}
-use Rattle.aes.specs.declared.Block.{Block}
 use Rattle.aes.proofs.WordsLaws.{first-byte, second-byte, third-byte, last-byte, word-fits, turned3-word, xor-word}
 use Rattle.aes.proofs.ColumnsLaws.{substituted-is, unmixed-is}
 

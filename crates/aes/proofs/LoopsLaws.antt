@@ -6,7 +6,7 @@ use Prim.Native.Nat.{ℕ, zero, suc, _+_, _-_, _*_, _≤_, _<_}
 use native.Mathlib.Numerals.{add-one}
 use native.Mathlib.Omega.{arith}
 use lib.ListN.{length, getD, take, drop, set, take-append-drop, length-append, length-drop}
-use lib.Seq.{getD-take, getD-at, drop-cons, take-at, take-all, length-take-le}
+use lib.Seq.{getD-take, getD-at, drop-cons, take-at, length-take-le}
 use Rattle.cells.specs.Cells.{part, write}
 use Rattle.cells.proofs.CellsLaws.{grow, copy-more}
 use Rattle.rules.specs.AesBytes.{_⊕_}

@@ -1,17 +1,17 @@
 -- A word and its four bytes: each is the other, sums go byte by byte, and a word
 -- that is turned has its bytes turned.
 -- Assumes nothing.
-use mathlib.Core.Path.{_≡_, refl, sym, ap, ap₂, _∙_}
+use mathlib.Core.Path.{_≡_, sym, ap, ap₂, _∙_}
 use mathlib.Core.List.{List, [], _∷_, _++_}
-use Prim.Native.Nat.{ℕ, _+_, _*_, _/_, _%_, _^_, _<_}
+use Prim.Native.Nat.{ℕ, _+_, _*_, _/_, _%_, _<_}
 use native.Mathlib.Nat.{div-div-eq-div-mul}
 use native.Mathlib.Omega.{arith}
 use lib.Bits.{bitXor, xor-block}
 use Rattle.rules.specs.Fields.{fourBytes}
 use Rattle.rules.specs.AesBytes.{_⊕_}
 use Rattle.rules.specs.AesPromises.{Bytes}
-use Rattle.fips197.proofs.BytesLaws.{listed, from, append-bytes, four-bytes}
-use Rattle.aes.specs.Words.{word4, wordAt, blockOf, bytesOf, Fit}
+use Rattle.fips197.proofs.BytesLaws.{from, append-bytes, four-bytes}
+use Rattle.aes.specs.Words.{word4, blockOf, bytesOf, Fit}
 use Rattle.aes.specs.ByTables.{turned1, turned2, turned3}
 use Rattle.aes.specs.declared.Block.{Block}
 

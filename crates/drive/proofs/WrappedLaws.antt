@@ -9,14 +9,14 @@ use Prim.Native.Nat.{ℕ, _+_, _≤_}
 use native.Mathlib.Omega.{arith}
 use lib.ListN.{length, drop, length-append}
 use borrow.Author.Tests.{eq-eqb}
-use Rattle.cells.specs.Cells.{part, write, zeros}
+use Rattle.cells.specs.Cells.{part, write}
 use Rattle.cells.proofs.CellsLaws.{length-part, length-write, part-write-in, part-write-before, drop-write, length-zeros, part-whole}
 use Rattle.rules.specs.declared.Namespace.{Namespace}
 use Rattle.rules.specs.declared.Tag.{Tag}
 use Rattle.rules.specs.declared.Registers.{Registers}
 use Rattle.rules.specs.declared.Refusal.{Refusal}
 use Rattle.rules.specs.Numbers.{uidMost, keySize, wrappedSize, slotsSize}
-use Rattle.rules.specs.Checks.{AllPass, judged}
+use Rattle.rules.specs.Checks.{AllPass}
 use Rattle.rules.specs.Answers.{07·10}
 use Rattle.rules.specs.State.{State, refuse, obey}
 use Rattle.rules.specs.Slots.{Contents, FitKey, FitWrapped}
@@ -27,7 +27,7 @@ use Rattle.rules.specs.Order.{frameRule, slotChecks, withUid, load, loadWrapped
 use Rattle.rules.proofs.AesLaws.{unwrap-length}
 use Rattle.rules.proofs.ChecksLaws.{judged-pass}
 use Rattle.rules.proofs.WrappedLaws.{wrappedRule, wrapped-is, wrapped-first, loads-clear}
-use Rattle.wrap.specs.Wrapping.{Opening, told, openedIn}
+use Rattle.wrap.specs.Wrapping.{told, openedIn}
 use Rattle.drive.specs.declared.Found.the-variants as found
 use Rattle.drive.specs.Acting.{state, replaceMost, openedAt, located}
 use Rattle.drive.proofs.ActingLaws.{refused-by}

@@ -2,9 +2,9 @@
 -- the product goes through the sum, the sixteen products are sorted by the byte they
 -- came from, and each byte then has one of the four entries of `MixEntries`.
 -- Assumes nothing.
-use mathlib.Core.Path.{_≡_, refl, sym, ap, ap₂, _∙_}
-use mathlib.Core.List.{List, [], _∷_, _++_}
-use Prim.Native.Nat.{ℕ, _+_, _<_}
+use mathlib.Core.Path.{_≡_, sym, ap, ap₂, _∙_}
+use mathlib.Core.List.{[], _∷_}
+use Prim.Native.Nat.{ℕ, _<_}
 use Rattle.rules.specs.AesBytes.{_⊕_, _•_}
 use Rattle.rules.specs.Aes.{_⊞_, byMatrix}
 use Rattle.rules.specs.AesPromises.{Bytes}

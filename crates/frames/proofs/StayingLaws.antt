@@ -7,7 +7,7 @@ use mathlib.Core.List.{List, _++_}
 use Prim.Native.Nat.{ℕ, _+_, _-_, _/_, _≤_}
 use native.Mathlib.Omega.{arith}
 use lib.ListN.{length, take, drop, length-append, length-drop}
-use lib.Dec.{eqb, leb}
+use lib.Dec.{eqb}
 use lib.Seq.{drop-at, drop-drop, length-take-le}
 use borrow.Author.Tests.{leb-true}
 use Rattle.cells.proofs.CellsLaws.{drop-write}

@@ -13,7 +13,7 @@ use Rattle.rules.specs.Kmip.{has, _isA_with_, _holds_, is, attributes, Attribut
 use Rattle.rules.specs.Kmip.{from, lacks, inOrder, valueThen, vendored, eachVendored, named, namespaceName, tagName, Attribute}
 use Rattle.kmip.specs.declared.Member.{Member}
 use Rattle.kmip.specs.declared.Seen.{Seen}
-use Rattle.kmip.specs.Runs.{Runs, Sought}
+use Rattle.kmip.specs.Runs.{Sought}
 use Rattle.kmip.specs.Attributing.{isNamespace, isTag, hasValue, firstGood, attributed, othersGood}
 use Rattle.kmip.proofs.RowLaws.{HitStructure}
 

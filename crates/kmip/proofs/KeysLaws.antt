@@ -1,9 +1,9 @@
 -- A key that was found, and a table's row with what is in its structure.
 -- Assumes nothing.
 use mathlib.Core.Path.{_≡_, refl, sym, ap, _∙_}
-use mathlib.Core.Bool.{Bool, true, false, _&&_, cond}
+use mathlib.Core.Bool.{Bool, true, _&&_}
 use mathlib.Core.List.{List, []}
-use Prim.Native.Nat.{ℕ, _+_}
+use Prim.Native.Nat.{ℕ}
 use native.Mathlib.Omega.{arith}
 use lib.ListN.{length}
 use lib.Dec.{eqb}
@@ -13,10 +13,10 @@ use Rattle.cells.proofs.CellsLaws.{length-part}
 use Rattle.cells.proofs.PredicatesLaws.{and-left, and-right}
 use Rattle.rules.specs.Numbers.{keySize}
 use Rattle.rules.specs.Ttlv.{Items, Structure, ByteString}
-use Rattle.rules.specs.Kmip.{inOrder, _holds_, structureThen, bytesOf, membersOf}
+use Rattle.rules.specs.Kmip.{inOrder, structureThen, bytesOf, membersOf}
 use Rattle.kmip.specs.declared.Member.{Member}
 use Rattle.kmip.specs.Runs.{Runs, Sought, KeyStands}
-use Rattle.kmip.proofs.RowLaws.{HitValue, HitStructure, hit-value, hit-structure, row-structure, last-row}
+use Rattle.kmip.proofs.RowLaws.{HitValue, hit-value, hit-structure, row-structure, last-row}
 
 byte-string : ByteString ≡ Structure → ⊥
 byte-string e = omega (arith, e)

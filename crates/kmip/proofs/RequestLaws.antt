@@ -5,15 +5,15 @@ use mathlib.Core.Bool.{Bool, true, false, _&&_, cond, true≢false}
 use mathlib.Core.List.{List}
 use mathlib.Core.Option.{Option, none, some}
 use mathlib.Core.Logic.{by-cases}
-use Prim.Native.Nat.{ℕ, _+_, _-_, _<_, _≤_}
+use Prim.Native.Nat.{ℕ, _+_, _-_}
 use native.Mathlib.Omega.{arith}
 use native.Mathlib.Decide.{ℕ-discrete}
-use lib.ListN.{length, take, drop}
+use lib.ListN.{length}
 use lib.Dec.{eqb}
 use lib.Seq.{take-length}
-use borrow.Author.Tests.{eq-eqb, ne-eqb, eqb-true}
+use borrow.Author.Tests.{eq-eqb, ne-eqb}
 use Rattle.cells.specs.Cells.{part}
-use Rattle.cells.proofs.PredicatesLaws.{and-left, and-right}
+use Rattle.cells.proofs.PredicatesLaws.{and-right}
 use Rattle.rules.specs.Slots.{Contents}
 use Rattle.rules.specs.Ttlv.{Items, end, value, structure, itemHead, readAt, readItems}
 use Rattle.rules.specs.Kmip.{from, behindOf, membersOf, inOrder, requestMessage, isRequest, payloadIn, broughtBy, loadIn, loadOf}

@@ -13,7 +13,7 @@ use lib.Dec.{eqb, leb}
 use borrow.Author.Tests.{leb-true, eq-eqb, ne-eqb}
 use Rattle.cells.specs.Cells.{part}
 use Rattle.cells.proofs.CellsLaws.{length-part}
-use Rattle.rules.specs.Ttlv.{Items, end, value, structure, itemHead, toEight, deepest, isValue, front, noItem, aValue, aStructure}
+use Rattle.rules.specs.Ttlv.{Items, end, value, structure, itemHead, deepest, isValue, front, noItem, aValue, aStructure}
 use Rattle.rules.specs.Ttlv.{withValue, withStructure, onFront, readAt}
 use Rattle.rules.specs.Ttlv as ttlv
 use Rattle.rules.proofs.TtlvFrontLaws.{Typed, typed}

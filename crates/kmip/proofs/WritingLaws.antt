@@ -3,7 +3,7 @@
 use mathlib.Core.Path.{_≡_, refl, sym, ap, _∙_}
 use mathlib.Core.Bool.{Bool, true, false}
 use mathlib.Core.Logic.{_⊎_, inl, inr}
-use mathlib.Core.List.{List, [], _∷_, _++_, append-nil, append-assoc}
+use mathlib.Core.List.{List, [], _++_, append-nil, append-assoc}
 use Prim.Native.Nat.{ℕ, _+_, _-_, _/_, _%_, _<_, _≤_}
 use native.Mathlib.Omega.{arith}
 use lib.ListN.{length}
@@ -11,7 +11,6 @@ use lib.Dec.{leb}
 use borrow.Author.Tests.{leb-true, leb-false}
 use Rattle.cells.specs.Cells.{zeros}
 use Rattle.rules.specs.Numbers.{keySize, uidMost}
-use Rattle.rules.specs.Fields.{fourBytes}
 use Rattle.rules.specs.Slots.{Contents}
 use Rattle.rules.specs.Ttlv.{Items, end, value, structure, Structure, head, toEight, padding, encode, size}
 use Rattle.rules.specs.KmipMessage.{messageOf}

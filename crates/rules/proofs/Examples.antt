@@ -1,8 +1,7 @@
 -- The bench table and the session are right: the checker computes them, the
 -- table's rows without the scan for soundness before every line.
 -- Assumes nothing.
-use mathlib.Core.Path.{_≡_, refl, _∙_}
-use mathlib.Core.Bool.{true}
+use mathlib.Core.Path.{refl, _∙_}
 use Rattle.cells.specs.Cells.{part, write, zeros, copies, cell, put, fill}
 use Rattle.cells.specs.Predicates.{same, allZero, someFrom, someCell}
 use Rattle.rules.specs.Discovery.{headerBytes, tperBytes, keyPerIoBytes, response, ownHeader, ownTper, ownKeyPerIo, ownFields}

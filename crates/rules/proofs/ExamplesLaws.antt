@@ -1,7 +1,7 @@
 -- A row of the bench table on a sound drive: each of its calls is admitted, so
 -- that the row is right when it is right without a look at the whole state.
 -- Assumes nothing.
-use mathlib.Core.Path.{_≡_, refl, sym, ap, _∙_}
+use mathlib.Core.Path.{_≡_, refl, ap}
 use mathlib.Core.Bool.{Bool, true, false, not, _&&_}
 use mathlib.Core.List.{List, [], _∷_}
 use Prim.Native.Nat.{ℕ}
@@ -12,13 +12,12 @@ use Rattle.cells.specs.Cells.{zeros}
 use Rattle.cells.specs.Predicates.{same}
 use Rattle.cells.proofs.CellsLaws.{length-zeros}
 use Rattle.rules.specs.Numbers.{storeSize}
-use Rattle.rules.specs.Checks.{AllPass}
 use Rattle.rules.specs.State.{State, Sized}
 use Rattle.rules.specs.Sound.{unsound}
 use Rattle.rules.specs.Locks.{sameLock}
 use Rattle.rules.specs.Order.{step}
 use Rattle.rules.specs.Start.{fresh, programKek}
-use Rattle.rules.specs.Call.{callChecks, roomFor, answered, call}
+use Rattle.rules.specs.Call.{roomFor, answered, call}
 use Rattle.rules.specs.Examples.{Entry, _answers_, partitions, codes, _⁀_, right, allRight}
 use Rattle.rules.proofs.CallLaws.{call-read}
 use Rattle.rules.proofs.TakenLaws.{sound-step}

@@ -3,7 +3,7 @@
 -- Assumes nothing.
 use mathlib.Core.Path.{_≡_, refl, sym, ap, _∙_}
 use mathlib.Core.Bool.{Bool, true, false, not, cond, true≢false}
-use mathlib.Core.Option.{Option, none, some}
+use mathlib.Core.Option.{some}
 use mathlib.Core.List.{List, [], _∷_, _++_}
 use mathlib.Core.Logic.{_↔_, _⊎_, inl, inr, ⊎-elim}
 use Prim.Native.Nat.{ℕ, _+_, _≤_, _<_}
@@ -21,7 +21,7 @@ use Rattle.rules.specs.declared.Answer.the-variants.{Done, Refused}
 use Rattle.rules.specs.declared.Command.{Command}
 use Rattle.rules.specs.Numbers.{namespaces, blocksEach, slotsSize, storeSize}
 use Rattle.rules.specs.Checks.{Check, _when_, judged, onlyIf, AllPass, FirstToFail}
-use Rattle.rules.specs.Answers.{lineFeed, 00·28, 07·10}
+use Rattle.rules.specs.Answers.{lineFeed, 00·28}
 use Rattle.rules.specs.State.{State, Outcome, Rule, Sized, refuse, obey, keyEncryptionKey, noNamespace, managed, tagAbove, IsNamespace}
 use Rattle.rules.specs.Slots.{Contents, IsSlot, slot, otherKey, empty, loaded, uidOf, keyOf, contentsOf, Held, nothing, holding, uidHeld, held}
 use Rattle.rules.specs.Marks.{mark, keptIdentity, neverWritten, identityOf, differs}
@@ -31,7 +31,7 @@ use Rattle.rules.specs.KeyWrap.{unwrap}
 use Rattle.rules.specs.Sound.{unsound}
 use Rattle.rules.specs.Effects.{emptyAllSlots}
 use Rattle.rules.specs.Order as order
-use Rattle.rules.specs.Order.{frameRule, frameOf, lineRule, step, slotChecks, withUid, opened, isReading, commandChecks, keyChecks, markCheck, wrongKey}
+use Rattle.rules.specs.Order.{frameRule, frameOf, lineRule, step, withUid, opened, isReading, commandChecks, keyChecks, markCheck, wrongKey}
 use Rattle.rules.specs.Call.{callChecks, roomFor, Called, unanswered, answered, call}
 use Rattle.rules.specs.Sessions.{joined, linesOf, endState, Session, noSession, allAnswered, session}
 use Rattle.rules.specs.Start.{fresh, freshWith, emptiedCache, startChecks, start}

@@ -8,8 +8,7 @@ use mathlib.Core.Logic.{by-cases}
 use Prim.Native.Nat.{ℕ, _+_, _-_, _≤_, _<_}
 use native.Mathlib.Decide.{decLt}
 use native.Mathlib.Omega.{arith}
-use lib.ListN.{length, getD, take, drop, length-append, length-take}
-use lib.Seq.{take-at}
+use lib.ListN.{length, getD, drop, length-append, length-take}
 use borrow.Author.Tests.{not-false, eqb-true}
 use Rattle.cells.specs.Cells.{part, zeros}
 use Rattle.cells.specs.Predicates.{same, allZero}

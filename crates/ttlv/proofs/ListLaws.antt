@@ -1,21 +1,20 @@
 -- Items take the bytes that they were read from, and the list of some bytes goes
 -- on from item to item.
 -- Assumes nothing.
-use mathlib.Core.Path.{_≡_, refl, sym, ap, _∙_}
-use mathlib.Core.Bool.{true, false}
-use mathlib.Core.List.{List, [], _∷_, _++_, append-assoc, append-nil}
+use mathlib.Core.Path.{_≡_, refl, ap, _∙_}
+use mathlib.Core.List.{List, [], _∷_, append-assoc, append-nil}
 use mathlib.Core.Option.{Option, none, some}
 use Prim.Native.Nat.{ℕ, zero, suc, _+_, _-_, _<_, _≤_}
 use native.Mathlib.Omega.{arith}
 use lib.ListN.{length}
 use lib.Dec.{leb}
 use borrow.Author.Tests.{lt-leb}
-use Rattle.rules.specs.Ttlv.{Items, end, value, structure, Structure, itemHead, toEight, size, deepest}
+use Rattle.rules.specs.Ttlv.{Items, Structure, itemHead, toEight, size, deepest}
 use Rattle.rules.specs.Ttlv.{Front, noItem, aValue, aStructure, front, withValue, withStructure, onFront, readBy, readAt}
 use Rattle.rules.proofs.TtlvFrontLaws.{on-cond, Cut, cut}
 use Rattle.rules.proofs.TtlvLaws.{Holds, read-on}
 use Rattle.ttlv.specs.declared.Item.{Item}
-use Rattle.ttlv.specs.ItemList.{isSome, item, listed, listOf, listAt, join}
+use Rattle.ttlv.specs.ItemList.{item, listed, listOf, listAt, join}
 
 -- ------------------------------------------------------------------------
 -- Items take the bytes that they were read from

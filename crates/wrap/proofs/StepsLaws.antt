@@ -2,8 +2,8 @@
 -- Assumes nothing.
 use mathlib.Core.Path.{_≡_, refl, sym, ap, ap₂, _∙_}
 use mathlib.Core.Bool.{cond}
-use mathlib.Core.List.{List, [], _∷_, _++_, append-assoc}
-use Prim.Native.Nat.{ℕ, zero, suc, _+_, _-_, _*_, _%_, _≤_, _<_}
+use mathlib.Core.List.{List, _++_, append-assoc}
+use Prim.Native.Nat.{ℕ, zero, suc, _+_, _-_, _*_, _≤_, _<_}
 use native.Mathlib.Nat.{add-zero}
 use native.Mathlib.Numerals.{add-one}
 use native.Mathlib.Omega.{arith}
@@ -18,13 +18,12 @@ use Rattle.rules.specs.AesBytes.{_⊕_}
 use Rattle.rules.specs.Aes.{_⊞_, keyExpansion, cipherWith, invCipherWith}
 use Rattle.rules.specs.KeyWrap.{counter, blockOfStep, wrapStep, wrapSteps, unwrapStep, unwrapSteps}
 use Rattle.rules.specs.AesPromises.{Small, Bytes}
-use Rattle.rules.proofs.AesLaws.{length-⊞}
 use Rattle.fips197.specs.Boxes.{sbox, invSbox}
 use Rattle.fips197.proofs.XorLaws.{⊕-zero}
 use Rattle.fips197.proofs.BytesLaws.{listed, from, small-append, small-take, small-drop, append-bytes, part-bytes, take-bytes, drop-bytes, xor-bytes}
 use Rattle.fips197.proofs.KeyLaws.{expansion-bytes}
 use Rattle.fips197.proofs.CipherLaws.{cipherWith-bytes, invCipherWith-bytes}
-use Rattle.aes.specs.Words.{word4, wordAt, blockOf, bytesOf}
+use Rattle.aes.specs.Words.{word4, wordAt, blockOf}
 use Rattle.aes.specs.Tables.{mixTable, invMixTable}
 use Rattle.aes.specs.ByTables.{wordsOf, expandedBy, unmixedBy, cipherBy, invCipherBy}
 use Rattle.aes.specs.declared.Block.{Block}

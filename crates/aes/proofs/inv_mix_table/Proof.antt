@@ -1,6 +1,5 @@
 -- `aes::inv_mix_table` meets its contract: entry by entry, computed.
 -- Assumes nothing.
-use borrow.Author.Needs.{needs}
 use mathlib.Core.Path.{refl}
 use Rattle.rules.specs.AesBytes.{_⊕_, _•_, productBelow, xTimes, ifSet}
 use Rattle.fips197.specs.Boxes.{invSbox}

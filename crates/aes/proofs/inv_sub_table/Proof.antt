@@ -1,6 +1,5 @@
 -- `aes::inv_sub_table` meets its contract: entry by entry, computed.
 -- Assumes nothing.
-use borrow.Author.Needs.{needs}
 use mathlib.Core.Path.{refl}
 use Rattle.fips197.specs.Boxes.{invSbox}
 use Rattle.aes.proofs.inv_sub_table.Statement.{statement}

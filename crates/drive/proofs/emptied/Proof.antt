@@ -2,7 +2,6 @@
 -- Assumes nothing.
 use borrow.Author.Needs.{needs}
 use native.Mathlib.Omega.{arith}
-use mathlib.Core.Path.{refl}
 use Rattle.slots.proofs.CacheLaws.{wrong-cache}
 use Rattle.drive.proofs.KeysLaws.{emptied-is}
 use Rattle.drive.proofs.emptied.Statement.{statement}

@@ -2,15 +2,13 @@
 -- Assumes nothing.
 use borrow.Author.Needs.{needs}
 use native.Mathlib.Omega.{arith}
-use mathlib.Core.Path.{_≡_, refl, sym, ap, _∙_}
-use mathlib.Core.List.{List, [], _∷_, _++_}
+use mathlib.Core.Path.{refl, sym}
+use mathlib.Core.List.{List, []}
 use mathlib.Core.Option.{none, some}
-use Prim.Native.Nat.{_+_, _-_, _≤_}
+use Prim.Native.Nat.{_+_, _-_}
 use lib.ListN.{length}
-use Rattle.rules.specs.Ttlv.{itemHead}
 use Rattle.ttlv.specs.declared.Item.{Item}
-use Rattle.ttlv.specs.ItemList.{isSome}
-use Rattle.ttlv.specs.Reading.{Fronted, Mid}
+use Rattle.ttlv.specs.Reading.{Mid}
 use Rattle.ttlv.proofs.MidLaws.{mid-start, mid-end, mid-close, mid-deep, mid-broken, mid-value, mid-open, at-end, end-inside, sound-if}
 use Rattle.ttlv.proofs.sound.Statement.{statement}
 use Rattle.ttlv.proofs.sound.Tie as tie

@@ -1,10 +1,7 @@
 -- `tuffaleen_unwrap` meets its contract: the sizes are those of the types.
 -- Assumes nothing.
 use borrow.Author.Needs.{needs}
-use mathlib.Core.Path.{_≡_, ap, _∙_}
 use native.Mathlib.Omega.{arith}
-use mathlib.Core.Bool.{true, false}
-use Rattle.wrap.specs.Wrapping.{Opening}
 use Rattle.tuffaleen_c.proofs.CourierLaws.{c-opened, c-shut}
 use Rattle.tuffaleen_c.proofs.tuffaleen_unwrap.Statement.{statement}
 use Rattle.tuffaleen_c.proofs.tuffaleen_unwrap.Tie as tie

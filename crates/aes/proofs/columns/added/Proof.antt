@@ -1,6 +1,5 @@
 -- `aes::columns::added` meets its contract: word by word.
 -- Assumes nothing.
-use borrow.Author.Needs.{needs}
 use mathlib.Core.Path.{refl}
 use Rattle.rules.specs.AesBytes.{_⊕_}
 use Rattle.aes.proofs.columns.added.Statement.{statement}

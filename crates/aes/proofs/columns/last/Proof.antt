@@ -1,8 +1,8 @@
 -- `aes::columns::last` meets its contract: column by column.
 -- Assumes nothing.
 use borrow.Author.Needs.{needs}
-use mathlib.Core.Path.{ap, _∙_}
-use Rattle.aes.specs.ByTables.{added, lastOf}
+use mathlib.Core.Path.{_∙_}
+use Rattle.aes.specs.ByTables.{added}
 use Rattle.aes.proofs.columns.last.Statement.{statement}
 use Rattle.aes.proofs.columns.last.Tie as tie
 

@@ -1,8 +1,8 @@
 -- `aes::columns::round` meets its contract: column by column.
 -- Assumes nothing.
 use borrow.Author.Needs.{needs}
-use mathlib.Core.Path.{ap, _∙_}
-use Rattle.aes.specs.ByTables.{added, roundOf}
+use mathlib.Core.Path.{_∙_}
+use Rattle.aes.specs.ByTables.{added}
 use Rattle.aes.proofs.columns.round.Statement.{statement}
 use Rattle.aes.proofs.columns.round.Tie as tie
 

@@ -1,7 +1,7 @@
 -- `aes::columns::rounds_back` meets its contract: the rounds left to go back lead where all 13 lead.
 -- Assumes nothing.
 use borrow.Author.Needs.{needs}
-use mathlib.Core.Path.{_≡_, refl, sym, ap, ap₂, _∙_}
+use mathlib.Core.Path.{_≡_, refl, sym, ap, _∙_}
 use Prim.Native.Nat.{_-_, _≤_}
 use native.Mathlib.Omega.{arith}
 use Rattle.aes.specs.ByTables.{mirrored, roundOf, backBy}

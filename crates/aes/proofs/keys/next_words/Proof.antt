@@ -4,7 +4,7 @@ use borrow.Author.Needs.{needs}
 use mathlib.Core.Path.{_≡_, refl, sym, ap, _∙_}
 use Prim.Native.Nat.{_+_, _-_, _≤_}
 use native.Mathlib.Omega.{arith}
-use lib.ListN.{length, take, getD, set, length-set}
+use lib.ListN.{length, take, getD, length-set}
 use lib.Seq.{take-all}
 use Rattle.rules.specs.AesBytes.{_⊕_}
 use Rattle.aes.specs.ByTables.{expandedBy}

@@ -1,6 +1,5 @@
 -- `first_place` meets its contract: by the test, which is the definition's own.
 -- Assumes nothing.
-use borrow.Author.Needs.{needs}
 use mathlib.Core.Logic.{⊎-elim}
 use Rattle.discovery.proofs.finding.first_place.Statement.{statement}
 use Rattle.discovery.proofs.finding.first_place.Tie as tie

@@ -1,6 +1,5 @@
 -- `feature_end` meets its contract: 0 at 0, else behind the bytes that the length counts.
 -- Assumes nothing.
-use borrow.Author.Needs.{needs}
 use native.Mathlib.Omega.{arith}
 use Prim.Native.Nat.{_+_, _≤_}
 use lib.ListN.{length}

@@ -1,7 +1,6 @@
 -- `room_for` meets its contract: the line 0C, or any other.
 -- Assumes nothing.
 use borrow.Author.Needs.{needs}
-use native.Mathlib.Omega.{arith}
 use mathlib.Core.Path.{ap}
 use lib.ListN.{length, getD}
 use Rattle.drive.proofs.LinesLaws.{room-other, room-discovery}

@@ -1,7 +1,6 @@
 -- `attribute` meets its contract.
 -- Assumes nothing.
 use borrow.Author.Needs.{needs}
-use mathlib.Core.Path.{refl}
 use Rattle.kmip.specs.Attributing.{attributed}
 use Rattle.kmip.proofs.attributes.attribute.Statement.{statement}
 use Rattle.kmip.proofs.attributes.attribute.Tie as tie

@@ -1,11 +1,7 @@
 -- `attributes` meets its contract.
 -- Assumes nothing.
 use borrow.Author.Needs.{needs}
-use mathlib.Core.Path.{refl, ap, _∙_}
-use mathlib.Core.Bool.{false, _&&_}
 use Rattle.cells.proofs.PredicatesLaws.{and-left}
-use Rattle.rules.specs.Ttlv.{Enumeration}
-use Rattle.rules.specs.Kmip.{has, _isA_with_, _holds_, is, CryptographicParameters, KeyRoleType, DEK}
 use Rattle.kmip.proofs.AttributesLaws.{attributes-are}
 use Rattle.kmip.proofs.attributes.attributes.Statement.{statement}
 use Rattle.kmip.proofs.attributes.attributes.Tie as tie

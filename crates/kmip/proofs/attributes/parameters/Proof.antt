@@ -1,12 +1,11 @@
 -- `parameters` meets its contract.
 -- Assumes nothing.
 use borrow.Author.Needs.{needs}
-use mathlib.Core.Path.{refl, sym, ap, _∙_}
+use mathlib.Core.Path.{refl, sym, ap}
 use mathlib.Core.List.{[]}
 use Rattle.cells.proofs.PredicatesLaws.{and-left}
 use Rattle.rules.specs.Ttlv.{Enumeration}
 use Rattle.rules.specs.Kmip.{from, inOrder, membersOf, has, _isA_with_, is, CryptographicParameters, KeyRoleType, DEK}
-use Rattle.kmip.specs.Runs.{Runs}
 use Rattle.kmip.proofs.RowLaws.{row-structure, last-row, hit-structure}
 use Rattle.kmip.proofs.attributes.parameters.Statement.{statement}
 use Rattle.kmip.proofs.attributes.parameters.Tie as tie

@@ -1,6 +1,5 @@
 -- `aes` meets its contract.
 -- Assumes nothing.
-use borrow.Author.Needs.{needs}
 use mathlib.Core.Path.{refl, ap, _∙_}
 use mathlib.Core.Bool.{_&&_}
 use mathlib.Core.Logic.{inl, inr}

@@ -2,8 +2,7 @@
 -- Assumes nothing.
 use borrow.Author.Needs.{needs}
 use native.Mathlib.Omega.{arith}
-use mathlib.Core.Path.{sym, ap, _∙_}
-use Rattle.rules.specs.Fields.{bigEndian}
+use mathlib.Core.Path.{sym, _∙_}
 use Rattle.kmip.proofs.NumberLaws.{not-four, not-there, four-there}
 use Rattle.kmip.proofs.members.number_in.Statement.{statement}
 use Rattle.kmip.proofs.members.number_in.Tie as tie

@@ -2,7 +2,7 @@
 -- Assumes nothing.
 use borrow.Author.Needs.{needs}
 use native.Mathlib.Omega.{arith}
-use lib.ListN.{length, length-set}
+use lib.ListN.{length-set}
 use Rattle.kmip.specs.Pieces.{betweenUidAndKey}
 use Rattle.kmip.proofs.writing.up_to_key.Statement.{statement}
 use Rattle.kmip.proofs.writing.up_to_key.Tie as tie

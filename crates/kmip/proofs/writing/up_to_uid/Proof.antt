@@ -2,7 +2,7 @@
 -- Assumes nothing.
 use borrow.Author.Needs.{needs}
 use native.Mathlib.Omega.{arith}
-use lib.ListN.{length, length-set}
+use lib.ListN.{length-set}
 use Rattle.kmip.specs.Pieces.{beforeUid}
 use Rattle.kmip.proofs.writing.up_to_uid.Statement.{statement}
 use Rattle.kmip.proofs.writing.up_to_uid.Tie as tie

@@ -1,6 +1,5 @@
 -- `tags_up_to` meets its contract.
 -- Assumes nothing.
-use borrow.Author.Needs.{needs}
 use native.Mathlib.Omega.{arith}
 use borrow.Author.Tests.{lt-ltb, le-ltb}
 use Rattle.rules.specs.Numbers.{tagsMost}

@@ -1,6 +1,5 @@
 -- `same_run` meets its contract: the answer so far, and what is left of the two, decide.
 -- Assumes nothing.
-use borrow.Author.Needs.{needs}
 use native.Mathlib.Omega.{arith}
 use mathlib.Core.Path.{_≡_, refl, sym, ap, _∙_}
 use mathlib.Core.Bool.{_&&_}
