@@ -1,8 +1,8 @@
--- The first bad digit, found by a walk from the front; lines that have digits
--- only; pairs of digits, decoded one after the other.
+-- The first bad digit, found by a walk from the front; the largest value on the
+-- way; pairs of digits, decoded one after the other.
 -- Assumes nothing.
 use mathlib.Core.Path.{_≡_, refl, sym, ap, _∙_}
-use mathlib.Core.Bool.{Bool, true, false, _&&_, cond, true≢false}
+use mathlib.Core.Bool.{Bool, true, false, _&&_, cond}
 use mathlib.Core.Logic.{by-cases}
 use mathlib.Core.List.{List, [], _∷_, _++_, append-assoc, append-nil}
 use Prim.Native.Nat.{ℕ, suc, _+_, _*_, _/_, _%_, _≤_, _<_}
@@ -10,13 +10,13 @@ use native.Mathlib.Omega.{arith}
 use native.Mathlib.Numerals.{add-one}
 use native.Mathlib.Decide.{decLt}
 use lib.ListN.{length, getD, take, drop, set, drop-of-length-le}
-use lib.Seq.{drop-cons, take-suc, length-take-le}
-use lib.Dec.{eqb, leb, ltb, eqb·zero-suc, eqb·suc-suc}
-use borrow.Author.Tests.{leb-true, lt-ltb, le-ltb, eqb-false}
+use lib.Seq.{drop-cons, take-suc, take-all, length-take-le}
+use lib.Dec.{leb, ltb}
+use borrow.Author.Tests.{leb-true, eq-eqb, ne-eqb, lt-ltb, le-ltb, eqb-false}
 use Rattle.cells.proofs.CellsLaws.{grow}
 use Rattle.cells.proofs.PredicatesLaws.{and-left, and-right, true-or-false}
 use Rattle.rules.specs.FrameLine.{isDigit, valueOf, firstBad, decoded}
-use Rattle.digits.specs.Decoding.{Valued, allDigits, framed}
+use Rattle.digits.specs.Decoding.{Valued, Larger, allDigits, framed}
 
 pub outside : (a z d : ℕ) → (a ≤ d → d ≤ z → ⊥) → leb a d && leb d z ≡ false
 outside a z d out = true-or-false _ (λ e. out (leb-true a d (and-left _ _ e)) (leb-true d z (and-right (leb a d) _ e)))
@@ -43,25 +43,31 @@ module _ (line : List ℕ) (k : ℕ) (clean : CleanTo line k) where
   clean-end h = let s : firstBad (drop k line) ≡ 0 = rw (drop-of-length-le line h) in omega arith
 
 -- ------------------------------------------------------------------------
--- Digits only
+-- The largest value so far: up to 15 while no digit was bad
 
-module _ (d v : ℕ) (w : Valued d v) where
-  pub below-16 : ltb v 16 ≡ isDigit d
-  below-16 =
-      by-cases (decLt v 16)
-      (λ good. lt-ltb v 16 good ∙ sym (w .good (omega arith) .0))
-      (λ bad. le-ltb v 16 (omega arith) ∙ sym (w .bad (omega arith)))
+abbrev pub Watched : List ℕ → ℕ → ℕ → Type 0
+Watched line k worst = (worst ≤ 15 → CleanTo line k) × (15 < worst → firstBad line < k)
 
-  pub value-of : isDigit d ≡ true → (v ≤ 15) × (v ≡ valueOf d)
-  value-of e =
-      by-cases (decLt v 16)
-      (λ good. let h : v ≤ 15 = omega arith in (h, w .good h .1))
-      (λ bad. absurd (true≢false (sym e ∙ w .bad (omega arith))))
+module _ (line : List ℕ) (k worst : ℕ) (seen : Watched line k worst) where
+  -- one digit more
+  pub watch-more : (v next : ℕ) → k < length line → Valued (getD line k 0) v → Larger worst v next → Watched line (k + 1) next
+  watch-more v next h w l = (
+    λ good. let a = l .first in let b = l .second in clean-more line k (seen .0 (omega arith)) h (w .good (omega arith)),
+    λ bad.
+        by-cases (decLt 15 worst)
+        (λ before. omega (arith, seen .1 before))
+        (λ clean.
+        by-cases (decLt 15 v)
+        (λ here. omega (arith, clean-stop line k (seen .0 (omega arith)) h (w .bad here)))
+        (λ none. absurd (omega (arith, l .least 15 (omega arith) (omega arith))))),
+  )
 
--- the first byte is a digit or not: b
-first-decides : (b : Bool) (f n : ℕ) → eqb (cond b (suc f) 0) (suc n) ≡ b && eqb f n
-first-decides true f n = eqb·suc-suc f n
-first-decides false f n = eqb·zero-suc n
+  -- none is left
+  pub watched-all : k ≡ length line → ltb worst 16 ≡ allDigits line
+  watched-all e =
+      by-cases (decLt worst 16)
+      (λ good. lt-ltb worst 16 good ∙ sym (eq-eqb (firstBad line) (length line) (sym (clean-end line k (seen .0 (omega arith)) (omega arith)) ∙ e)))
+      (λ bad. le-ltb worst 16 (omega arith) ∙ sym (ne-eqb (firstBad line) (length line) (λ q. omega (arith, seen .1 (omega arith)))))
 
 first-fits : (b : Bool) (f n : ℕ) → f ≤ n → cond b (suc f) 0 ≤ suc n
 first-fits true f n h = omega arith
@@ -74,18 +80,6 @@ bad-fits (d ∷ line) = first-fits (isDigit d) (firstBad line) (length line) (ba
 
 pub some-bad : (line : List ℕ) → allDigits line ≡ false → firstBad line < length line
 some-bad line e = omega (arith, eqb-false (firstBad line) (length line) e, bad-fits line)
-
--- a turn: the answer so far, and what is left of the line, decide
-pub all-turn : (line : List ℕ) (i : ℕ) (good here : Bool) → i < length line → here ≡ isDigit (getD line i 0)
-    → (good && here) && allDigits (drop (i + 1) line) ≡ good && allDigits (drop i line)
-unfolding firstBad
-all-turn line i true here h e = rw (drop-cons line i 0 h, e, add-one) (sym (first-decides (isDigit (getD line i 0)) _ _))
-all-turn line i false here h e = refl
-
-pub all-end : (line : List ℕ) (i : ℕ) (good : Bool) → length line ≤ i → good ≡ good && allDigits (drop i line)
-unfolding firstBad
-all-end line i true h = rw (drop-of-length-le line h)
-all-end line i false h = refl
 
 -- ------------------------------------------------------------------------
 -- Pairs of digits
@@ -134,11 +128,10 @@ module _ (line : List ℕ) (i : ℕ) where
       rw (next-pair h)
       (grow (decoded (take (i * 2) line)) frame i _ (omega (arith, length-decoded (take (i * 2) line), front (omega arith))) k)
 
-  -- the end: the first bad digit is in the next pair, or there is no pair left
-  pub decode-end : (frame : List ℕ) → firstBad line / 2 ≡ i → firstBad line ≤ length line
-      → decoded (take (i * 2) line) ++ drop i frame ≡ framed line frame
+  -- the end: no pair is left
+  pub decode-end : (frame : List ℕ) → i ≡ length line / 2 → decoded (take (i * 2) line) ++ drop i frame ≡ framed line frame
   unfolding framed
-  decode-end frame e h =
-      by-cases (decLt (i * 2) (firstBad line))
-      (λ odd. let s : firstBad line ≡ suc (i * 2) = omega arith in rw (e, s, lone-digit (omega arith)))
-      (λ even. let s : firstBad line ≡ i * 2 = omega arith in rw (e, s))
+  decode-end frame e =
+      by-cases (decLt (i * 2) (length line))
+      (λ odd. rw (← e, ← lone-digit odd, take-all (suc (i * 2)) line (omega arith)))
+      (λ even. rw (← e, take-all (i * 2) line (omega arith)))

@@ -4,18 +4,25 @@ use mathlib.Core.Path.{_≡_}
 use mathlib.Core.Bool.{Bool, true, false}
 use mathlib.Core.List.{List, _++_}
 use mathlib.Core.Option.{Option, none, some}
-use Prim.Native.Nat.{ℕ, _/_, _≤_, _<_}
-use lib.ListN.{length, take, drop}
+use Prim.Native.Nat.{ℕ, _/_, _%_, _≤_, _<_}
+use lib.ListN.{length, drop}
 use lib.Dec.{eqb}
 use Rattle.rules.specs.declared.BadLine.{BadLine}
 use Rattle.rules.specs.Answers.{reason, placeIn}
 use Rattle.rules.specs.FrameLine.{isDigit, valueOf, firstBad, decoded}
 use Rattle.digits.specs.declared.Fault.{Fault}
 
--- v is the value of the digit d; above 15 where d is no digit
+-- v is the value of the digit d; above 15 where d is no digit, and then its last four bits are zero
 pub record Valued (d v : ℕ) : Type 0 where
-  pub good : v ≤ 15 → (isDigit d ≡ true) × (v ≡ valueOf d)
+  pub good : v ≤ 15 → isDigit d ≡ true
   pub bad : 15 < v → isDigit d ≡ false
+  pub low : v % 16 ≡ valueOf d
+
+-- r is the larger of two
+pub record Larger (a b r : ℕ) : Type 0 where
+  pub first : a ≤ r
+  pub second : b ≤ r
+  pub least : (k : ℕ) → a ≤ k → b ≤ k → r ≤ k
 
 -- no byte is bad
 abbrev pub allDigits : List ℕ → Bool
@@ -23,7 +30,7 @@ allDigits line = eqb (firstBad line) (length line)
 
 -- the frame of `readInto`, for a line of a good length
 unfoldable pub framed : List ℕ → List ℕ → List ℕ
-framed line frame = decoded (take (firstBad line) line) ++ drop (firstBad line / 2) frame
+framed line frame = decoded line ++ drop (length line / 2) frame
 
 -- what a fault has to tell, as numbers: reason 0 for none
 abbrev pub tells : Option BadLine → Fault

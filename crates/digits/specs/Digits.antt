@@ -3,13 +3,13 @@
 use mathlib.Core.Bool.{Bool, not, _&&_, cond}
 use mathlib.Core.List.{List, _++_}
 use Prim.Native.Nat.{ℕ, _/_}
-use lib.ListN.{length, take, drop}
+use lib.ListN.{length, drop}
 use lib.Dec.{eqb, leb}
 use Rattle.rules.specs.declared.Answer.{Answer}
 use Rattle.rules.specs.declared.LineRead.{LineRead}
 use Rattle.rules.specs.Numbers.{digitsMost}
 use Rattle.rules.specs.Answers.{answerLine}
-use Rattle.rules.specs.FrameLine.{firstBad, decoded, readLine}
+use Rattle.rules.specs.FrameLine.{decoded, readLine}
 use Rattle.rules.specs.Call.{written}
 
 -- 1 to 1,024 bytes: a line of any other length is refused unread
@@ -20,11 +20,11 @@ pub record ReadInto : Type 0 where
   pub read : LineRead
   pub frame : List ℕ
 
--- the pairs of digits before the first bad one go to the front of the frame, the rest of it stays
+-- the pairs of digits go to the front of the frame, also where one is bad; the rest of it stays
 unfoldable pub readInto : List ℕ → List ℕ → ReadInto
 readInto line frame = record {
   read = readLine line;
-  frame = cond (lineLength line) (decoded (take (firstBad line) line) ++ drop (firstBad line / 2) frame) frame;
+  frame = cond (lineLength line) (decoded line ++ drop (length line / 2) frame) frame;
 }
 
 pub record Wrote : Type 0 where

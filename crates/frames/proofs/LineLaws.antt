@@ -7,10 +7,9 @@ use mathlib.Core.List.{List, [], _∷_, _++_}
 use Prim.Native.Nat.{ℕ, _/_, _%_, _≤_, _<_}
 use native.Mathlib.Omega.{arith}
 use lib.ListN.{length, take, drop}
-use lib.Seq.{take-at, take-length}
+use lib.Seq.{take-at}
 use lib.Dec.{eqb, ltb}
-use borrow.Author.Tests.{eqb-true, eqb-false, ltb-false, le-leb, ne-eqb}
-use Rattle.cells.proofs.PredicatesLaws.{false-or-true}
+use borrow.Author.Tests.{eqb-false, ltb-false, le-leb, ne-eqb}
 use Rattle.rules.specs.declared.LineRead.{LineRead}
 use Rattle.rules.specs.declared.LineRead.the-variants.{Bytes, Bad}
 use Rattle.rules.specs.declared.BadLine.{BadLine}
@@ -23,9 +22,8 @@ use Rattle.rules.specs.Frames.{readFrame}
 use Rattle.rules.specs.Order.{frameOf, readingChecks}
 use Rattle.rules.proofs.ChecksLaws.{judged-pass, judged-refusing}
 use Rattle.rules.proofs.FrameLineLaws.{isBytes, isFrameLine}
-use Rattle.digits.specs.Decoding.{allDigits}
 use Rattle.digits.specs.Digits.{ReadInto, readInto}
-use Rattle.digits.proofs.ReadingLaws.{some-bad, length-decoded}
+use Rattle.digits.proofs.ReadingLaws.{length-decoded}
 use Rattle.frames.specs.declared.FrameRead.the-variants.{Refused}
 use Rattle.frames.specs.Reading.{numbersOf, placed, numbered, ReadFrom, readAs, readFrom}
 
@@ -35,7 +33,6 @@ use Rattle.frames.specs.Reading.{numbersOf, placed, numbered, ReadFrom, 
 record Whole (line : List ℕ) : Type 0 where
   pub some : 2 ≤ length line
   pub short : length line ≤ digitsMost
-  pub digits : firstBad line ≡ length line
   pub read : readLine line ≡ Bytes (length line / 2)
   pub passes : AllPass (lineChecks line)
 
@@ -57,12 +54,9 @@ whole-line line e =
     let p = all-pass (eqb n 0) (ltb digitsMost n) (ltb (firstBad line) n) (eqb (n % 2) 1) (firstBad line) (n / 2) e in
     let some : n ≡ 0 → ⊥ = eqb-false n 0 (p .0) in
     let even : n % 2 ≡ 1 → ⊥ = eqb-false (n % 2) 1 (p .1 .1 .1 .0) in
-    let good : n ≤ firstBad line = ltb-false (firstBad line) n (p .1 .1 .0) in
-    let all : allDigits line ≡ true = false-or-true (allDigits line) (λ b. omega (arith, some-bad line b)) in
     record {
       some = omega arith;
       short = ltb-false digitsMost n (p .1 .0);
-      digits = eqb-true (firstBad line) n all;
       read = judged-pass (lineChecks line) Bad (Bytes (n / 2)) p;
       passes = p;
     }
@@ -72,7 +66,7 @@ unfolding readInto
 frame-of line frame e =
     let w = whole-line line e in
     let some : length line ≡ 0 → ⊥ = omega (arith, w .some) in
-    rw (ne-eqb (length line) 0 some, le-leb (length line) digitsMost (w .short), w .digits, take-length line)
+    rw (ne-eqb (length line) 0 some, le-leb (length line) digitsMost (w .short))
 
 -- ------------------------------------------------------------------------
 -- By what was read

@@ -6,16 +6,16 @@ use mathlib.Core.Bool.{Bool, true, false, not, cond}
 use mathlib.Core.List.{List, _++_}
 use Prim.Native.Nat.{ℕ, _+_, _-_, _/_, _≤_}
 use native.Mathlib.Omega.{arith}
-use lib.ListN.{length, take, drop, length-append, length-drop}
+use lib.ListN.{length, drop, length-append, length-drop}
 use lib.Dec.{eqb}
-use lib.Seq.{drop-at, drop-drop, length-take-le}
+use lib.Seq.{drop-at, drop-drop}
 use borrow.Author.Tests.{leb-true}
 use Rattle.cells.proofs.CellsLaws.{drop-write}
 use Rattle.cells.proofs.PredicatesLaws.{and-right}
 use Rattle.rules.specs.declared.Refusal.{Refusal}
 use Rattle.rules.specs.Numbers.{uidMost, keySize, digitsMost}
 use Rattle.rules.specs.Checks.{Verdict, passed, refused, firstRefusal, settle, AllPass}
-use Rattle.rules.specs.FrameLine.{firstBad, decoded}
+use Rattle.rules.specs.FrameLine.{decoded}
 use Rattle.rules.specs.Frames.{Frame, manage, release, load, loadWrapped, replace, clearOne, clearAll, io}
 use Rattle.rules.specs.Frames.{setFeatures, getFeatures, bootWrite, reset, discovery}
 use Rattle.rules.specs.Frames.{unknown}
@@ -24,7 +24,7 @@ use Rattle.rules.proofs.ChecksLaws.{then-pass}
 use Rattle.rules.proofs.FrameLineLaws.{line-passes}
 use Rattle.rules.proofs.FramesLaws.{Fit, fits}
 use Rattle.digits.specs.Digits.{lineLength, readInto}
-use Rattle.digits.proofs.ReadingLaws.{bad-fits, length-decoded}
+use Rattle.digits.proofs.ReadingLaws.{length-decoded}
 use Rattle.frames.specs.Reading.{placed, readAs, readFrom}
 
 -- what is put before the rest of a list leaves the rest
@@ -43,30 +43,22 @@ module _ (line bytes : List ℕ) (w : ℕ) (digits : length line ≤ digitsMost 
   abbrev came : List ℕ
   came = readInto line bytes .frame
 
-  abbrev bad : ℕ
-  bad = firstBad line
+  abbrev half : ℕ
+  half = length line / 2
 
-  abbrev front : List ℕ
-  front = decoded (take bad line)
+  few : lineLength line ≡ true → half ≤ w
+  few e = digits (leb-true (length line) digitsMost (and-right (not (eqb (length line) 0)) _ e))
 
-  front-long : length front ≡ bad / 2
-  front-long = length-decoded (take bad line) ∙ ap (λ n. n / 2) (length-take-le bad line (bad-fits line))
-
-  few : lineLength line ≡ true → bad / 2 ≤ w
-  few e =
-      let short : length line ≤ digitsMost = leb-true (length line) digitsMost (and-right (not (eqb (length line) 0)) _ e) in
-      omega (arith, digits short, bad-fits line)
-
-  came-by : (b : Bool) → lineLength line ≡ b → drop w (cond b (front ++ drop (bad / 2) bytes) bytes) ≡ drop w bytes
-  came-by true e = rest-stays front bytes (bad / 2) w front-long (few e)
+  came-by : (b : Bool) → lineLength line ≡ b → drop w (cond b (decoded line ++ drop half bytes) bytes) ≡ drop w bytes
+  came-by true e = rest-stays (decoded line) bytes half w (length-decoded line) (few e)
   came-by false e = refl
 
   came-stays : drop w came ≡ drop w bytes
   unfolding readInto
   came-stays = came-by (lineLength line) refl
 
-  long-by : (b : Bool) → lineLength line ≡ b → length (cond b (front ++ drop (bad / 2) bytes) bytes) ≡ length bytes
-  long-by true e = length-append front (drop (bad / 2) bytes) ∙ simp length-drop (omega (arith, front-long, few e))
+  long-by : (b : Bool) → lineLength line ≡ b → length (cond b (decoded line ++ drop half bytes) bytes) ≡ length bytes
+  long-by true e = length-append (decoded line) (drop half bytes) ∙ simp length-drop (omega (arith, length-decoded line, few e))
   long-by false e = refl
 
   came-long : length came ≡ length bytes

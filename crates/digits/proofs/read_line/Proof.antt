@@ -2,7 +2,7 @@
 -- Assumes nothing.
 use native.Mathlib.Omega.{arith}
 use mathlib.Core.Path.{_≡_, sym, _∙_}
-use Prim.Native.Nat.{_/_, _<_, _≤_}
+use Prim.Native.Nat.{_/_, _≤_}
 use lib.ListN.{length, drop}
 use borrow.Author.Tests.{not-true, not-false, eqb-true, eq-eqb, ne-eqb, lt-ltb, le-ltb, le-leb, lt-leb}
 use borrow.Author.Needs.{needs}
@@ -26,66 +26,56 @@ returns-2 c =
     simp (ne-eqb _ _ (else1 .if1 .left), lt-ltb _ _ (c .if2 .taken), lt-leb _ _ (c .if2 .taken))
 
 -- the length is good, so the last two checks decide
-decides : (d : tie.After-all-digits) → let s = d .before .before .before .before .args in
-    readInto (s .line .now) (s .frame .now)
+decides : (d : tie.After-decode) → let s : tie.Start = search in
+    readInto (s .args .line .now) (s .args .frame .now)
     ≡ record {
-      read = judged (drop 2 (lineChecks (s .line .now))) Bad (Bytes (length (s .line .now) / 2));
-      frame = framed (s .line .now) (s .frame .now);
+      read = judged (drop 2 (lineChecks (s .args .line .now))) Bad (Bytes (length (s .args .line .now) / 2));
+      frame = d .decode .last .1 .0;
     }
 unfolding readInto readLine lineChecks framed
 decides d =
     let n : tie.Else2 = search in
     let else1 : tie.Else1 = search in
-    simp (ne-eqb _ _ (else1 .if1 .left), le-ltb _ _ (n .if2 .left), le-leb _ _ (n .if2 .left))
+    simp (ne-eqb _ _ (else1 .if1 .left), le-ltb _ _ (n .if2 .left), le-leb _ _ (n .if2 .left), d .decode .ensures .1)
 
 returns-3 : tie.Need-returns-3
 unfolding lineChecks
 returns-3 c =
     let then3 : tie.Then3 = search in
-    let d : tie.After-all-digits = search in
+    let d : tie.After-decode = search in
     let s : tie.Start = search in
     let line = s .args .line .now in
-    let bad = sym (d .all-digits .ensures) ∙ not-true _ (then3 .if3 .taken) in
-    let h : c .decode .result < length line = omega (arith, some-bad line bad, c .decode .ensures .0) in
-    simp (decides d, sym (c .decode .ensures .0), lt-ltb _ _ h, sym (c .decode .ensures .1))
-
-decode-all-requires : tie.Need-decode-all-requires
-decode-all-requires c κs =
-    let else3 : tie.Else3 = search in
-    let at-all-digits : tie.After-all-digits = search in
-    (sym (at-all-digits .all-digits .ensures) ∙ not-false _ (else3 .if3 .left), search needs)
+    let bad = sym (d .decode .ensures .0) ∙ not-true _ (then3 .if3 .taken) in
+    simp (decides d, c .first-bad .ensures, lt-ltb _ _ (some-bad line bad))
 
 -- no digit is bad, so the last check decides
-full : (d : tie.After-decode-all) → let s = d .before .before .before .before .before .before .before .args in
-    readInto (s .line .now) (s .frame .now)
+full : (e : tie.Else3) → let d : tie.After-decode = search in let s : tie.Start = search in
+    readInto (s .args .line .now) (s .args .frame .now)
     ≡ record {
-      read = judged (drop 3 (lineChecks (s .line .now))) Bad (Bytes (length (s .line .now) / 2));
-      frame = d .decode-all .last .1 .0;
+      read = judged (drop 3 (lineChecks (s .args .line .now))) Bad (Bytes (length (s .args .line .now) / 2));
+      frame = d .decode .last .1 .0;
     }
 unfolding lineChecks
-full c =
-    let else3 : tie.Else3 = search in
-    let d : tie.After-all-digits = search in
+full e =
+    let d : tie.After-decode = search in
     let s : tie.Start = search in
     let line = s .args .line .now in
-    let good = sym (d .all-digits .ensures) ∙ not-false _ (else3 .if3 .left) in
+    let good = sym (d .decode .ensures .0) ∙ not-false _ (e .if3 .left) in
     let h : length line ≤ firstBad line = omega (arith, eqb-true (firstBad line) (length line) good) in
-    simp (decides d, sym (c .decode-all .ensures), le-ltb _ _ h)
+    simp (decides d, le-ltb _ _ h)
 
 returns-4 : tie.Need-returns-4
 unfolding lineChecks
 returns-4 c =
-    let at-decode-all : tie.After-decode-all = search in
-    simp (full at-decode-all, eq-eqb _ _ (c .if4 .taken))
+    let e : tie.Else3 = search in
+    simp (full e, eq-eqb _ _ (c .if4 .taken))
 
 returns-5 : tie.Need-returns-5
 unfolding lineChecks
 returns-5 c =
-    let at-decode-all : tie.After-decode-all = search in
-    simp (full at-decode-all, ne-eqb _ _ (c .if4 .left))
+    let e : tie.Else3 = search in
+    simp (full e, ne-eqb _ _ (c .if4 .left))
 
 pub read-line-spec : {M : Type 1} → statement M
 read-line-spec =
-    tie.close
-    (tie.spec
-    returns returns-2 (λ c κs. search needs) (λ c κs. search needs) returns-3 decode-all-requires returns-4 returns-5)
+    tie.close (tie.spec returns returns-2 (λ c κs. search needs) (λ c κs. search needs) returns-3 returns-4 returns-5)

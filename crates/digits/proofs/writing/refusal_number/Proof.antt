@@ -1,8 +1,8 @@
 -- `digits::refusal_number` meets its contract: in each arm the definition computes to the arm's number.
 -- Assumes nothing.
 use borrow.Author.Needs.{needs}
-use Rattle.digits.proofs.refusal_number.Statement.{statement}
-use Rattle.digits.proofs.refusal_number.Tie as tie
+use Rattle.digits.proofs.writing.refusal_number.Statement.{statement}
+use Rattle.digits.proofs.writing.refusal_number.Tie as tie
 
 pub refusal-number-spec : {M : Type 1} → statement M
 refusal-number-spec =

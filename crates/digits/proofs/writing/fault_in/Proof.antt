@@ -2,8 +2,8 @@
 -- Assumes nothing.
 use borrow.Author.Needs.{needs}
 use Rattle.rules.specs.Answers.{faultOf}
-use Rattle.digits.proofs.fault_in.Statement.{statement}
-use Rattle.digits.proofs.fault_in.Tie as tie
+use Rattle.digits.proofs.writing.fault_in.Statement.{statement}
+use Rattle.digits.proofs.writing.fault_in.Tie as tie
 
 told : tie.Need-returns-9
 unfolding faultOf

@@ -3,8 +3,8 @@
 use native.Mathlib.Omega.{arith}
 use borrow.Author.Tests.{lt-ltb, le-ltb}
 use borrow.Author.Needs.{needs}
-use Rattle.digits.proofs.digit.Statement.{statement}
-use Rattle.digits.proofs.digit.Tie as tie
+use Rattle.digits.proofs.writing.digit.Statement.{statement}
+use Rattle.digits.proofs.writing.digit.Tie as tie
 
 returns : tie.Need-returns
 returns c = simp (lt-ltb _ _ (c .if1 .taken))

@@ -3,8 +3,8 @@
 use native.Mathlib.Omega.{arith}
 use Rattle.digits.proofs.WritingLaws.{wrote-not, wrote-all}
 use borrow.Author.Needs.{needs}
-use Rattle.digits.proofs.write_line.Statement.{statement}
-use Rattle.digits.proofs.write_line.Tie as tie
+use Rattle.digits.proofs.writing.write_line.Statement.{statement}
+use Rattle.digits.proofs.writing.write_line.Tie as tie
 
 returns : tie.Need-returns
 returns c =

@@ -9,8 +9,8 @@ use lib.Seq.{take-length}
 use borrow.Author.Needs.{needs}
 use Rattle.rules.specs.Answers.{digitsOf}
 use Rattle.digits.proofs.WritingLaws.{digits-turn}
-use Rattle.digits.proofs.put_digits.Statement.{statement}
-use Rattle.digits.proofs.put_digits.Tie as tie
+use Rattle.digits.proofs.writing.put_digits.Statement.{statement}
+use Rattle.digits.proofs.writing.put_digits.Tie as tie
 
 abbrev Inv-loop : tie.InvT-loop
 Inv-loop bytes out₀ i₀ out i = (out ≡ digitsOf (take i bytes) ++ drop (i * 2) out₀) × (i ≤ length bytes) × (length out ≡ length out₀)

@@ -2,8 +2,8 @@
 -- Assumes nothing.
 use borrow.Author.Needs.{needs}
 use Rattle.digits.proofs.WritingLaws.{quiet-bytes, loud-bytes}
-use Rattle.digits.proofs.write_refusal.Statement.{statement}
-use Rattle.digits.proofs.write_refusal.Tie as tie
+use Rattle.digits.proofs.writing.write_refusal.Statement.{statement}
+use Rattle.digits.proofs.writing.write_refusal.Tie as tie
 
 returns : tie.Need-returns
 returns c =

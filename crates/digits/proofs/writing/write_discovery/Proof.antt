@@ -9,8 +9,8 @@ use Rattle.rules.specs.declared.Answer.the-variants.{Discovery}
 use Rattle.rules.specs.Answers.{answerBytes}
 use Rattle.rules.specs.Discovering.{Responded}
 use Rattle.digits.proofs.WritingLaws.{discovery-bytes, discovery-length}
-use Rattle.digits.proofs.write_discovery.Statement.{statement}
-use Rattle.digits.proofs.write_discovery.Tie as tie
+use Rattle.digits.proofs.writing.write_discovery.Statement.{statement}
+use Rattle.digits.proofs.writing.write_discovery.Tie as tie
 
 bytes : (r : tie.After-write) → answerBytes Discovery ≡ 0 ∷ 0 ∷ (r .write .last .1 .0 ++ [])
 unfolding zeros

@@ -1,8 +1,8 @@
 -- `fault_of` meets its contract: a row for each reason.
 -- Assumes nothing.
 use borrow.Author.Needs.{needs}
-use Rattle.digits.proofs.fault_of.Statement.{statement}
-use Rattle.digits.proofs.fault_of.Tie as tie
+use Rattle.digits.proofs.writing.fault_of.Statement.{statement}
+use Rattle.digits.proofs.writing.fault_of.Tie as tie
 
 returns-3 : tie.Need-returns-3
 returns-3 c =
