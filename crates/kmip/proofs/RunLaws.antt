@@ -168,6 +168,15 @@ item-fronted xs at to f e h =
     let is : frontAt xs at to ≡ f = sym (item-there xs at to (i .0) (i .1)) ∙ e in
     (i .1, rw is at (fronted xs at to (i .0) (i .1)))
 
+-- none stands at a run's end
+pub none-at-end : (xs : List ℕ) (to : ℕ) → NoItem ≡ itemAt xs to to
+none-at-end xs to = by (itemAt xs to to) refl
+  where
+    by : (f : Front) → itemAt xs to to ≡ f → NoItem ≡ itemAt xs to to
+    by NoItem e = sym e
+    by (Value t k n next) e = absurd (let i = item-fronted xs to to (Value t k n next) e refl .1 .inside in omega (arith, i .0, i .1))
+    by (Structure t n) e = absurd (let i = item-fronted xs to to (Structure t n) e refl .1 .inside in omega (arith, i))
+
 -- where it finds none, the run is at its end
 pub item-none : (xs : List ℕ) (at to : ℕ) (items : Items) → Runs xs at to items → itemAt xs at to ≡ NoItem → items ≡ end
 item-none xs at to items r e =

@@ -13,10 +13,17 @@ mod writing;
 use message::request;
 use rules::KEY_SIZE;
 use rules::UID_MOST;
+use ttlv::Front;
 use writing::lay;
 
 // Room for the message of a load with a KeyUID of 16 bytes.
 pub const MESSAGE_ROOM: usize = 408;
+
+// Where the first item of a tag stands, and what it is; at the run's end where there is none.
+pub(crate) struct Place {
+    pub at: usize,
+    pub front: Front,
+}
 
 // A member by places, if it was found: its value is the `length` bytes from `start` on, and the items behind it begin at `next`; the
 // members of a structure stand from `start` up to there.

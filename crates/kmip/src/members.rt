@@ -8,8 +8,10 @@ ghost use Prim.Native.Nat.{_≤_, _<_};
 ghost use Rattle.rules.specs.Fields.{bigEndian};
 ghost use Rattle.rules.specs.Ttlv.{Items};
 ghost use Rattle.rules.specs.Kmip.{from, lacks};
+ghost use Rattle.ttlv.specs.Reading.{itemAt};
 ghost use Rattle.kmip.specs.Runs.{Runs, Sought, numberAt, standsAt};
 use crate::Member;
+use crate::Place;
 use ttlv::Front;
 use ttlv::ITEM_HEAD;
 use ttlv::item_at;
@@ -24,17 +26,20 @@ pub(crate) const TEXT: u8 = 0x07;
 
 pub(crate) const BYTE_STRING: u8 = 0x08;
 
-// Where the first item with this tag stands; the run's end if there is none.
-fn find(bytes: &[u8], start: usize, end: usize, tag: u32) -> usize
-    ensures { λ r. ⌜ ((items : Items) → Runs (now (bytes .entry)) start end items → Runs (now (bytes .entry)) r end (from tag items))
-        × ((start ≤ r) ⊎ (end ≤ r)) ⌝ }
+// The first item with this tag.
+fn find(bytes: &[u8], start: usize, end: usize, tag: u32) -> Place
+    ensures { λ r. ⌜ ((items : Items) → Runs (now (bytes .entry)) start end items → Runs (now (bytes .entry)) (r .at) end (from tag items))
+        × ((start ≤ r .at) ⊎ (end ≤ r .at)) × (r .front ≡ itemAt (now (bytes .entry)) (r .at) end) ⌝ }
 {
     let mut at = start;
     while at < end {
         let front = item_at(bytes, at, end);
         match front {
             Front::NoItem => {
-                return end;
+                return Place {
+                    at: end,
+                    front: Front::NoItem,
+                };
             }
             Front::Value {
                 tag: t,
@@ -43,20 +48,23 @@ fn find(bytes: &[u8], start: usize, end: usize, tag: u32) -> usize
                 next,
             } => {
                 if t == tag {
-                    return at;
+                    return Place { at, front };
                 }
                 at = next;
                 continue;
             }
             Front::Structure { tag: t, length } => {
                 if t == tag {
-                    return at;
+                    return Place { at, front };
                 }
                 at = at + ITEM_HEAD + length;
             }
         }
     }
-    end
+    Place {
+        at: end,
+        front: Front::NoItem,
+    }
 }
 
 fn no_member() -> Member
@@ -75,8 +83,9 @@ pub(crate) fn member(bytes: &[u8], start: usize, end: usize, tag: u32, kind: u8)
     ensures { λ r. ⌜ ((items : Items) → Runs (now (bytes .entry)) start end items → Sought (now (bytes .entry)) end kind (from tag items) r)
         × (r .found ≡ true → (start < r .next) × (r .next ≤ end)) ⌝ }
 {
-    let at = find(bytes, start, end, tag);
-    let front = item_at(bytes, at, end);
+    let place = find(bytes, start, end, tag);
+    let at = place.at;
+    let front = place.front;
     match front {
         Front::NoItem => no_member(),
         Front::Value {
@@ -88,9 +97,10 @@ pub(crate) fn member(bytes: &[u8], start: usize, end: usize, tag: u32, kind: u8)
             if k != kind {
                 return no_member();
             }
+            let from = at + ITEM_HEAD;
             Member {
                 found: true,
-                start: at + ITEM_HEAD,
+                start: from,
                 length,
                 next,
             }
@@ -99,12 +109,13 @@ pub(crate) fn member(bytes: &[u8], start: usize, end: usize, tag: u32, kind: u8)
             if kind != STRUCTURE {
                 return no_member();
             }
-            let start = at + ITEM_HEAD;
+            let inside = at + ITEM_HEAD;
+            let behind = inside + length;
             Member {
                 found: true,
-                start,
+                start: inside,
                 length,
-                next: start + length,
+                next: behind,
             }
         }
     }
@@ -114,8 +125,8 @@ pub(crate) fn member(bytes: &[u8], start: usize, end: usize, tag: u32, kind: u8)
 pub(crate) fn absent(bytes: &[u8], start: usize, end: usize, tag: u32) -> bool
     ensures { λ r. ⌜ ((items : Items) → Runs (now (bytes .entry)) start end items → r ≡ lacks tag items) ⌝ }
 {
-    let at = find(bytes, start, end, tag);
-    let front = item_at(bytes, at, end);
+    let place = find(bytes, start, end, tag);
+    let front = place.front;
     match front {
         Front::NoItem => true,
         Front::Value {

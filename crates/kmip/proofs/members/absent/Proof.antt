@@ -12,10 +12,9 @@ returns c =
     let start : tie.Start = search in
     let s = start .args in
     let p : tie.After-find = search in
-    let f : tie.After-item-at = search in
     let k : tie.After-enum-told = search in
     let run = p .find .ensures .0 items r in
-    sym (lacks-none (s .bytes .now) (p .find .result) (s .end) (s .tag) items run (sym (f .item-at .ensures) ∙ k .enum-told .given .1))
+    sym (lacks-none (s .bytes .now) (p .find .result .at) (s .end) (s .tag) items run (sym (p .find .ensures .2) ∙ k .enum-told .given .1))
 
 returns-2 : tie.Need-returns-2
 returns-2 c =
@@ -23,10 +22,9 @@ returns-2 c =
     let start : tie.Start = search in
     let s = start .args in
     let p : tie.After-find = search in
-    let f : tie.After-item-at = search in
     let k : tie.After-enum-told2 = search in
     let g = k .enum-told2 .given in
-    sym (lacks-value (s .bytes .now) (p .find .result) (s .end) (s .tag) items (p .find .ensures .0 items r) _ _ _ _ (sym (f .item-at .ensures) ∙ g .1))
+    sym (lacks-value (s .bytes .now) (p .find .result .at) (s .end) (s .tag) items (p .find .ensures .0 items r) _ _ _ _ (sym (p .find .ensures .2) ∙ g .1))
 
 returns-3 : tie.Need-returns-3
 returns-3 c =
@@ -34,13 +32,12 @@ returns-3 c =
     let start : tie.Start = search in
     let s = start .args in
     let p : tie.After-find = search in
-    let f : tie.After-item-at = search in
     let k : tie.After-enum-told3 = search in
     let g = k .enum-told3 .given in
-    sym (lacks-structure (s .bytes .now) (p .find .result) (s .end) (s .tag) items (p .find .ensures .0 items r) _ _ (sym (f .item-at .ensures) ∙ g .1))
+    sym (lacks-structure (s .bytes .now) (p .find .result .at) (s .end) (s .tag) items (p .find .ensures .0 items r) _ _ (sym (p .find .ensures .2) ∙ g .1))
 
 pub absent-spec : {M : Type 1} → statement M
 absent-spec =
     tie.close
     (tie.spec
-    (λ c κs. search needs) (λ c κs. search needs) (λ c. search needs) (λ c. search needs) (λ c. search needs) returns returns-2 returns-3)
+    (λ c κs. search needs) (λ c. search needs) (λ c. search needs) (λ c. search needs) returns returns-2 returns-3)

@@ -7,7 +7,7 @@ use mathlib.Core.Logic.{inl, inr}
 use Prim.Native.Nat.{_-_, _≤_}
 use Rattle.rules.specs.Ttlv.{Items}
 use Rattle.kmip.specs.Runs.{Runs}
-use Rattle.kmip.proofs.RunLaws.{Left, item-fronted, left-none, left-end, left-value, left-value-hit, left-structure, left-structure-hit}
+use Rattle.kmip.proofs.RunLaws.{Left, item-fronted, none-at-end, left-none, left-end, left-value, left-value-hit, left-structure, left-structure-hit}
 use Rattle.kmip.proofs.members.find.Statement.{statement}
 use Rattle.kmip.proofs.members.find.Tie as tie
 
@@ -29,7 +29,7 @@ returns c =
     let f : tie.After-item-at Inv-loop μ-loop = search in
     let l = at-loop .loop in
     let found = sym (f .item-at .ensures) ∙ c .enum-told .given .1 in
-    (λ items r. absurd (left-none (s .bytes .now) (l .at) (s .end) (s .tag) items (l .inv .0 items r) (in-loop .loop-test .taken) found), inr (omega arith))
+    (λ items r. absurd (left-none (s .bytes .now) (l .at) (s .end) (s .tag) items (l .inv .0 items r) (in-loop .loop-test .taken) found), inr (omega arith), none-at-end (s .bytes .now) (s .end))
 
 returns-2 : tie.Need-returns-2 Inv-loop μ-loop
 returns-2 c =
@@ -44,6 +44,7 @@ returns-2 c =
       λ items r. left-value-hit (s .bytes .now) (l .at) (s .end) (s .tag) items (l .inv .0 items r)
           (g .0 .0) (g .0 .1 .0) (g .0 .1 .1 .0) (g .0 .1 .1 .1 .0) (sym (f .item-at .ensures) ∙ g .1) (in-loop .loop-test .taken) (c .if1 .taken),
       inl (at-loop .loop .inv .1),
+      sym (g .1) ∙ f .item-at .ensures,
     )
 
 loop-less : tie.Need-loop-less Inv-loop μ-loop
@@ -85,6 +86,7 @@ returns-3 c =
       λ items r. left-structure-hit (s .bytes .now) (l .at) (s .end) (s .tag) items (l .inv .0 items r)
           (g .0 .0) (g .0 .1 .0) (sym (f .item-at .ensures) ∙ g .1) (in-loop .loop-test .taken) (c .if2 .taken),
       inl (at-loop .loop .inv .1),
+      sym (g .1) ∙ f .item-at .ensures,
     )
 
 add-at : tie.Need-add-at Inv-loop μ-loop
@@ -141,7 +143,7 @@ returns-4 c =
     let s = start .args in
     let at-loop : tie.At-loop Inv-loop μ-loop = search in
     let l = at-loop .loop in
-    (λ items r. left-end (s .bytes .now) (l .at) (s .end) (s .tag) items (l .inv .0 items r) (omega arith), inr (omega arith))
+    (λ items r. left-end (s .bytes .now) (l .at) (s .end) (s .tag) items (l .inv .0 items r) (omega arith), inr (omega arith), none-at-end (s .bytes .now) (s .end))
 
 pub find-spec : {M : Type 1} → statement M
 find-spec =

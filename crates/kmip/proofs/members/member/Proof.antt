@@ -15,24 +15,22 @@ returns c =
     let start : tie.Start = search in
     let s = start .args in
     let p : tie.After-find = search in
-    let f : tie.After-item-at = search in
     let k : tie.After-front = search in
     let t : tie.Then1 = search in
     let g = k .front .given in (
-      λ items r. sought-other (s .bytes .now) (p .find .result) (s .end) (s .kind) (from (s .tag) items) (p .find .ensures .0 items r)
-          (g .0 .0) (g .0 .1 .0) (g .0 .1 .1 .0) (g .0 .1 .1 .1 .0) (sym (f .item-at .ensures) ∙ g .1) _ (t .if1 .taken) (c .no-member2 .ensures),
+      λ items r. sought-other (s .bytes .now) (p .find .result .at) (s .end) (s .kind) (from (s .tag) items) (p .find .ensures .0 items r)
+          (g .0 .0) (g .0 .1 .0) (g .0 .1 .1 .0) (g .0 .1 .1 .1 .0) (sym (p .find .ensures .2) ∙ g .1) _ (t .if1 .taken) (c .no-member2 .ensures),
       λ hit. absurd (true≢false (sym hit ∙ c .no-member2 .ensures)),
     )
 
-add-t15 : tie.Need-add-t15
-add-t15 c =
+add-from : tie.Need-add-from
+add-from c =
     let start : tie.Start = search in
     let s = start .args in
     let p : tie.After-find = search in
-    let f : tie.After-item-at = search in
     let k : tie.After-front = search in
     let g = k .front .given in
-    let i = item-fronted (s .bytes .now) (p .find .result) (s .end) _ (sym (f .item-at .ensures) ∙ g .1) refl in
+    let i = item-fronted (s .bytes .now) (p .find .result .at) (s .end) _ (sym (p .find .ensures .2) ∙ g .1) refl in
     omega (arith, i .0, i .1 .inside .0, i .1 .inside .1)
 
 returns-2 : tie.Need-returns-2
@@ -40,35 +38,32 @@ returns-2 c =
     let start : tie.Start = search in
     let s = start .args in
     let p : tie.After-find = search in
-    let f : tie.After-item-at = search in
     let k : tie.After-front2 = search in
     let t : tie.Then2 = search in
     let g = k .front2 .given in (
-      λ items r. sought-no-structure (s .bytes .now) (p .find .result) (s .end) (s .kind) (from (s .tag) items) (p .find .ensures .0 items r)
-          (g .0 .0) (g .0 .1 .0) (sym (f .item-at .ensures) ∙ g .1) _ (t .if2 .taken) (c .no-member3 .ensures),
+      λ items r. sought-no-structure (s .bytes .now) (p .find .result .at) (s .end) (s .kind) (from (s .tag) items) (p .find .ensures .0 items r)
+          (g .0 .0) (g .0 .1 .0) (sym (p .find .ensures .2) ∙ g .1) _ (t .if2 .taken) (c .no-member3 .ensures),
       λ hit. absurd (true≢false (sym hit ∙ c .no-member3 .ensures)),
     )
 
-add-start : tie.Need-add-start
-add-start c =
+add-inside : tie.Need-add-inside
+add-inside c =
     let start : tie.Start = search in
     let s = start .args in
     let p : tie.After-find = search in
-    let f : tie.After-item-at = search in
     let k : tie.After-front2 = search in
     let g = k .front2 .given in
-    let i = item-fronted (s .bytes .now) (p .find .result) (s .end) _ (sym (f .item-at .ensures) ∙ g .1) refl in
+    let i = item-fronted (s .bytes .now) (p .find .result .at) (s .end) _ (sym (p .find .ensures .2) ∙ g .1) refl in
     omega (arith, i .0, i .1 .inside)
 
-add-t17 : tie.Need-add-t17
-add-t17 c =
+add-behind : tie.Need-add-behind
+add-behind c =
     let start : tie.Start = search in
     let s = start .args in
     let p : tie.After-find = search in
-    let f : tie.After-item-at = search in
     let k : tie.After-front2 = search in
     let g = k .front2 .given in
-    let i = item-fronted (s .bytes .now) (p .find .result) (s .end) _ (sym (f .item-at .ensures) ∙ g .1) refl in
+    let i = item-fronted (s .bytes .now) (p .find .result .at) (s .end) _ (sym (p .find .ensures .2) ∙ g .1) refl in
     omega (arith, i .0, i .1 .inside)
 
 returns-3 : tie.Need-returns-3
@@ -76,10 +71,9 @@ returns-3 c =
     let start : tie.Start = search in
     let s = start .args in
     let p : tie.After-find = search in
-    let f : tie.After-item-at = search in
     let k : tie.After-enum-told = search in (
-      λ items r. sought-none (s .bytes .now) (p .find .result) (s .end) (s .kind) (from (s .tag) items) (p .find .ensures .0 items r) _
-          (sym (f .item-at .ensures) ∙ k .enum-told .given .1) (c .no-member .ensures),
+      λ items r. sought-none (s .bytes .now) (p .find .result .at) (s .end) (s .kind) (from (s .tag) items) (p .find .ensures .0 items r) _
+          (sym (p .find .ensures .2) ∙ k .enum-told .given .1) (c .no-member .ensures),
       λ hit. absurd (true≢false (sym hit ∙ c .no-member .ensures)),
     )
 
@@ -88,13 +82,12 @@ returns-4 c =
     let start : tie.Start = search in
     let s = start .args in
     let p : tie.After-find = search in
-    let f : tie.After-item-at = search in
     let k : tie.After-front = search in
     let e : tie.Else1 = search in
     let g = k .front .given in (
-      λ items r. sought-value (s .bytes .now) (p .find .result) (s .end) (s .kind) (from (s .tag) items) (p .find .ensures .0 items r)
-          (g .0 .0) (g .0 .1 .0) (g .0 .1 .1 .0) (g .0 .1 .1 .1 .0) (sym (f .item-at .ensures) ∙ g .1) (e .if1 .left),
-      λ hit. value-on (s .bytes .now) (s .start) (p .find .result) (s .end) _ _ _ _ (sym (f .item-at .ensures) ∙ g .1) (p .find .ensures .1),
+      λ items r. sought-value (s .bytes .now) (p .find .result .at) (s .end) (s .kind) (from (s .tag) items) (p .find .ensures .0 items r)
+          (g .0 .0) (g .0 .1 .0) (g .0 .1 .1 .0) (g .0 .1 .1 .1 .0) (sym (p .find .ensures .2) ∙ g .1) (e .if1 .left),
+      λ hit. value-on (s .bytes .now) (s .start) (p .find .result .at) (s .end) _ _ _ _ (sym (p .find .ensures .2) ∙ g .1) (p .find .ensures .1),
     )
 
 returns-5 : tie.Need-returns-5
@@ -102,19 +95,18 @@ returns-5 c =
     let start : tie.Start = search in
     let s = start .args in
     let p : tie.After-find = search in
-    let f : tie.After-item-at = search in
     let k : tie.After-front2 = search in
     let e : tie.Else2 = search in
     let g = k .front2 .given in (
-      λ items r. sought-structure (s .bytes .now) (p .find .result) (s .end) (s .kind) (from (s .tag) items) (p .find .ensures .0 items r)
-          (g .0 .0) (g .0 .1 .0) (sym (f .item-at .ensures) ∙ g .1) (e .if2 .left),
-      λ hit. structure-on (s .bytes .now) (s .start) (p .find .result) (s .end) _ _ (sym (f .item-at .ensures) ∙ g .1) (p .find .ensures .1),
+      λ items r. sought-structure (s .bytes .now) (p .find .result .at) (s .end) (s .kind) (from (s .tag) items) (p .find .ensures .0 items r)
+          (g .0 .0) (g .0 .1 .0) (sym (p .find .ensures .2) ∙ g .1) (e .if2 .left),
+      λ hit. structure-on (s .bytes .now) (s .start) (p .find .result .at) (s .end) _ _ (sym (p .find .ensures .2) ∙ g .1) (p .find .ensures .1),
     )
 
 pub member-spec : {M : Type 1} → statement M
 member-spec =
     tie.close
     (tie.spec
-    (λ c κs. search needs) (λ c κs. search needs) (λ c. search needs) (λ c κs. search needs)
-    (λ c. search needs) (λ c κs. search needs) returns add-t15
-    (λ c. search needs) (λ c κs. search needs) returns-2 add-start add-t17 returns-3 returns-4 returns-5)
+    (λ c κs. search needs) (λ c. search needs) (λ c κs. search needs)
+    (λ c. search needs) (λ c κs. search needs) returns add-from
+    (λ c. search needs) (λ c κs. search needs) returns-2 add-inside add-behind returns-3 returns-4 returns-5)
