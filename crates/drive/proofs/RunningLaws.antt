@@ -17,7 +17,7 @@ use Rattle.rules.specs.Order.{step}
 use Rattle.rules.specs.Call.{written, roomFor, Called, answered}
 use Rattle.rules.specs.Sessions.{linesOf, endState, answersTo, answerLines, roomForAll, Session, allAnswered}
 use Rattle.rules.proofs.Promised.{sound-kept}
-use Rattle.rules.proofs.AnswersLaws.{answer-fits}
+use Rattle.rules.proofs.SayableLaws.{answer-fits}
 use Rattle.digits.specs.Digits.{Wrote, wrote}
 use Rattle.drive.specs.declared.Answered.{Answered}
 use Rattle.drive.specs.Acting.{state, outcome, Ready}

@@ -8,10 +8,6 @@ use Rattle.cells.specs.Cells.{part}
 use Rattle.rules.specs.Answers.{lineFeed}
 use Rattle.rules.specs.Sessions.{linesOf}
 
--- as many bytes as are looked through for a line feed at once
-abbrev pub stride : ℕ
-stride = 32
-
 -- no line feed stands from a on, before z
 abbrev pub NoFeed : List ℕ → ℕ → ℕ → Type 0
 NoFeed text a z = (k : ℕ) → a ≤ k → k < z → getD text k 0 ≡ lineFeed → ⊥

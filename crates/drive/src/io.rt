@@ -1,7 +1,7 @@
 // I/O commands: their fields, the key check, the marks.
 ghost use mathlib.Core.Path.{_≡_};
-ghost use mathlib.Core.List.{List, []};
-ghost use Prim.Native.Nat.{ℕ, _+_, _*_, _≤_, _<_};
+ghost use mathlib.Core.List.{[]};
+ghost use Prim.Native.Nat.{_+_, _*_, _<_};
 ghost use lib.ListN.{length};
 ghost use Rattle.cells.specs.Cells.{part};
 ghost use Rattle.rules.specs.State.{obey, count as countOf, IsNamespace};

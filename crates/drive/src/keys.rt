@@ -1,7 +1,7 @@
 // The frames on keys: manage, release, load, replace, clear one, clear all.
 ghost use mathlib.Core.Path.{_≡_};
 ghost use mathlib.Core.List.{List};
-ghost use Prim.Native.Nat.{ℕ, _-_, _*_, _≤_, _<_};
+ghost use Prim.Native.Nat.{ℕ, _-_, _≤_, _<_};
 ghost use lib.ListN.{length, set};
 ghost use Rattle.rules.specs.Numbers.{slotPlaces, cacheSize};
 ghost use Rattle.rules.specs.State.{obey, total as totalOf, IsNamespace};

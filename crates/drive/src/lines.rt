@@ -6,7 +6,7 @@ ghost use lib.Dec.{ltb};
 ghost use lib.ListN.{length};
 ghost use Rattle.rules.specs.Call.{roomFor};
 ghost use Rattle.rules.specs.Sessions.{linesOf, roomForAll};
-ghost use Rattle.drive.specs.Lines.{stride, NoFeed, LineAt};
+ghost use Rattle.drive.specs.Lines.{NoFeed, LineAt};
 use rules::ANSWER_MOST;
 use rules::DISCOVERY_MOST;
 use std::num::wrapping_sub_u8;
@@ -19,8 +19,10 @@ pub(crate) struct Line {
     pub next: usize,
 }
 
-// As many bytes as are looked through for a line feed at once.
+// As many bytes as are looked through for a line feed at once; and as many where those had one.
 const STRIDE_BYTES: usize = 32;
+
+const STEP_BYTES: usize = 8;
 
 // The smaller of two. Compiled, it has no branch.
 fn smaller(a: u8, b: u8) -> u8
@@ -29,15 +31,15 @@ fn smaller(a: u8, b: u8) -> u8
     if a < b { a } else { b }
 }
 
-// Whether the stride at `at` has no line feed. It does not stop at one, and keeps how far the nearest byte was from one, counted upward: the
-// compiler takes the least of many bytes in one step.
-fn clean_stride(text: &[u8], at: usize) -> bool
-    requires { ⌜ at + stride ≤ length (now text) ⌝ }
-    ensures { λ r. ⌜ (r ≡ true → NoFeed (now (text .entry)) at (at + stride)) ⌝ }
+// Whether the n bytes from `at` on have no line feed. It does not stop at one, and keeps how far the nearest byte was from one, counted upward:
+// the compiler, which knows n at each call, takes the least of many bytes in one step.
+fn clean(text: &[u8], at: usize, n: usize) -> bool
+    requires { ⌜ at + n ≤ length (now text) ⌝ }
+    ensures { λ r. ⌜ (r ≡ true → NoFeed (now (text .entry)) at (at + n)) ⌝ }
 {
     let mut least: u8 = 255;
     let mut k = 0;
-    while k < STRIDE_BYTES {
+    while k < n {
         let i = at + k;
         least = smaller(least, wrapping_sub_u8(text[i], LINE_FEED));
         k += 1;
@@ -45,17 +47,17 @@ fn clean_stride(text: &[u8], at: usize) -> bool
     least > 0
 }
 
-// Past the clean strides from `at` on.
-fn skip_strides(text: &[u8], at: usize) -> usize
-    requires { ⌜ at ≤ length (now text) ⌝ }
+// Past the clean runs of n bytes from `at` on.
+fn skip(text: &[u8], at: usize, n: usize) -> usize
+    requires { ⌜ (at ≤ length (now text)) × (0 < n) ⌝ }
     ensures { λ r. ⌜ (at ≤ r) × (r ≤ length (now (text .entry))) × NoFeed (now (text .entry)) at r ⌝ }
 {
     let mut i = at;
-    while text.len() - i >= STRIDE_BYTES {
-        if !clean_stride(text, i) {
+    while text.len() - i >= n {
+        if !clean(text, i, n) {
             return i;
         }
-        i += STRIDE_BYTES;
+        i += n;
     }
     i
 }
@@ -65,7 +67,8 @@ pub(crate) fn next_line(text: &[u8], at: usize) -> Line
     requires { ⌜ at < length (now text) ⌝ }
     ensures { λ r. ⌜ LineAt (now (text .entry)) at (r .end) (r .next) ⌝ }
 {
-    let mut i = skip_strides(text, at);
+    let near = skip(text, at, STRIDE_BYTES);
+    let mut i = skip(text, near, STEP_BYTES);
     while i < text.len() {
         if text[i] == LINE_FEED {
             return Line {

@@ -4,18 +4,24 @@ use native.Mathlib.Omega.{arith}
 use Prim.Native.Nat.{_-_, _≤_}
 use lib.ListN.{length}
 use Rattle.drive.specs.Lines.{NoFeed}
-use Rattle.drive.proofs.LinesLaws.{fed, ended, clean-more}
+use Rattle.drive.proofs.LinesLaws.{fed, ended, clean-more, clean-both}
 use Rattle.drive.proofs.lines.next_line.Statement.{statement}
 use Rattle.drive.proofs.lines.next_line.Tie as tie
 
 abbrev Inv-loop : tie.InvT-loop
-Inv-loop text at i₀ i = (at ≤ i) × (i ≤ length text) × NoFeed text at i
+Inv-loop text at near i₀ i = (at ≤ i) × (i ≤ length text) × NoFeed text at i
 
 abbrev μ-loop : tie.MeasureT-loop
-μ-loop text at i₀ i = length text - i
+μ-loop text at near i₀ i = length text - i
 
 loop-holds : tie.Need-loop-holds Inv-loop μ-loop
-loop-holds c = c .skip-strides .ensures
+loop-holds c =
+    let far : tie.After-skip Inv-loop μ-loop = search in
+    let s : tie.Start Inv-loop μ-loop = search in
+    let a = s .args in
+    let one = far .skip .ensures in
+    let two = c .skip2 .ensures in
+    (omega arith, two .1, clean-both (a .text .now) (a .at) (far .skip .result) (c .skip2 .result) (one .2) (two .2))
 
 returns : tie.Need-returns Inv-loop μ-loop
 returns c =
@@ -42,6 +48,6 @@ pub next-line-spec : {M : Type 1} → statement M
 next-line-spec =
     tie.close
     (tie.spec
-    Inv-loop μ-loop (λ c κs. omega arith) loop-holds
+    Inv-loop μ-loop (λ c κs. omega arith) (λ c κs. omega arith) loop-holds
     (λ c. omega arith) (λ c. omega arith) returns
     (λ c. omega arith) (λ c. omega arith) loop-again returns-2)

@@ -1,4 +1,4 @@
--- `skip_strides` meets its contract: no line feed stands before i.
+-- `skip` meets its contract: no line feed stands before i.
 -- Assumes nothing.
 use native.Mathlib.Omega.{arith}
 use Prim.Native.Nat.{_-_, _≤_}
@@ -6,14 +6,14 @@ use lib.ListN.{length}
 use borrow.Author.Tests.{not-false}
 use Rattle.drive.specs.Lines.{NoFeed}
 use Rattle.drive.proofs.LinesLaws.{clean-both}
-use Rattle.drive.proofs.lines.skip_strides.Statement.{statement}
-use Rattle.drive.proofs.lines.skip_strides.Tie as tie
+use Rattle.drive.proofs.lines.skip.Statement.{statement}
+use Rattle.drive.proofs.lines.skip.Tie as tie
 
 abbrev Inv-loop : tie.InvT-loop
-Inv-loop text at i₀ i = (at ≤ i) × (i ≤ length text) × NoFeed text at i
+Inv-loop text at n i₀ i = (at ≤ i) × (i ≤ length text) × NoFeed text at i
 
 abbrev μ-loop : tie.MeasureT-loop
-μ-loop text at i₀ i = length text - i
+μ-loop text at n i₀ i = length text - i
 
 loop-holds : tie.Need-loop-holds Inv-loop μ-loop
 loop-holds c = (omega arith, omega arith, λ k a b e. omega arith)
@@ -27,9 +27,9 @@ loop-again : tie.Need-loop-again Inv-loop μ-loop
 loop-again c =
     let s : tie.Start Inv-loop μ-loop = search in
     let l : tie.At-loop Inv-loop μ-loop = search in
-    let n : tie.After-clean-stride Inv-loop μ-loop = search in
+    let n : tie.After-clean Inv-loop μ-loop = search in
     let a = s .args in
-    let clean = n .clean-stride .ensures (not-false _ (c .if1 .left)) in
+    let clean = n .clean .ensures (not-false _ (c .if1 .left)) in
     (omega arith, omega arith, clean-both (a .text .now) (a .at) (l .loop .i) _ (l .loop .inv .2) clean)
 
 returns-2 : tie.Need-returns-2 Inv-loop μ-loop
@@ -37,8 +37,8 @@ returns-2 c =
     let l : tie.At-loop Inv-loop μ-loop = search in
     l .loop .inv
 
-pub skip-strides-spec : {M : Type 1} → statement M
-skip-strides-spec =
+pub skip-spec : {M : Type 1} → statement M
+skip-spec =
     tie.close
     (tie.spec
     Inv-loop μ-loop loop-holds (λ c. omega arith) (λ c κs. omega arith) returns
