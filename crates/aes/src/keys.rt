@@ -5,7 +5,6 @@ ghost use Prim.Native.Nat.{_+_, _-_, _/_, _≤_, _<_};
 ghost use lib.ListN.{length, getD, take, drop};
 ghost use Rattle.cells.specs.Cells.{zeros};
 ghost use Rattle.rules.specs.Aes.{roundConstants};
-ghost use Rattle.aes.specs.Words.{wordAt};
 ghost use Rattle.aes.specs.ByTables.{wordsOf, subWordBy, turnedBy, expandedBy, unmixedWord, unmixedBy};
 use crate::columns::column;
 use crate::columns::substituted;

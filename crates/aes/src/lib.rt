@@ -4,7 +4,7 @@
 ghost use mathlib.Core.Path.{_≡_};
 ghost use mathlib.Core.Bool.{cond};
 ghost use lib.Dec.{eqb};
-ghost use lib.ListN.{length, drop};
+ghost use lib.ListN.{length};
 ghost use Prim.Native.Nat.{_+_};
 ghost use Rattle.cells.specs.Cells.{within, write, zeros};
 ghost use Rattle.rules.specs.Fields.{fourBytes};

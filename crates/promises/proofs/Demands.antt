@@ -19,7 +19,8 @@ use Rattle.rules.specs.History.{Event, told}
 use Rattle.rules.specs.Promises.{FromFresh, begin, one-more, Steps, sessionChecks}
 use Rattle.rules.proofs.ChecksLaws.{by-verdict}
 use Rattle.rules.proofs.StateLaws.{accepted-not}
-use Rattle.rules.proofs.AnswersLaws.{lines-then, sayable-answers, split-answers}
+use Rattle.rules.proofs.AnswersLaws.{lines-then, split-answers}
+use Rattle.rules.proofs.SayableLaws.{sayable-answers}
 use Rattle.rules.proofs.CallLaws.{call-unread, call-read, session-ran}
 use Rattle.rules.proofs.Promised as rules
 use Rattle.promises.specs.Leaves.{StartLeaves, SessionLeaves}

@@ -2,6 +2,7 @@ pub mod ChecksLaws
 pub mod StateLaws
 pub mod FrameLineLaws
 pub mod AnswersLaws
+pub mod SayableLaws
 pub mod FieldsLaws
 pub mod DiscoveryLaws
 pub mod FeaturesLaws

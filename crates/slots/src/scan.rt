@@ -13,7 +13,6 @@ ghost use Rattle.slots.specs.Cache.{allocated, headSize, headOf, otherKe
 use crate::bytes::same_key;
 use rules::NAMESPACES;
 use rules::POOL_SLOTS;
-use rules::SLOT_PLACES;
 use rules::SLOT_WIDTH;
 use rules::TAGS_MOST;
 use rules::UID_MOST;

@@ -7,7 +7,7 @@ ghost use lib.ListN.{length, drop};
 ghost use Rattle.cells.specs.Cells.{zeros};
 ghost use Rattle.rules.specs.Aes.{keyExpansion};
 ghost use Rattle.rules.specs.KeyWrap.{wrapSteps, unwrapSteps, initialValue};
-ghost use Rattle.wrap.specs.Wrapping.{wrappedIn, Opening, openedIn};
+ghost use Rattle.wrap.specs.Wrapping.{wrappedIn, openedIn};
 use aes::SCHEDULE;
 use rules::KEY_SIZE;
 use rules::WRAPPED_SIZE;

@@ -2,7 +2,7 @@
 -- Assumes nothing.
 use borrow.Author.Needs.{needs}
 use native.Mathlib.Omega.{arith}
-use Rattle.rules.proofs.AnswersLaws.{value-small}
+use Rattle.rules.proofs.SayableLaws.{value-small}
 use Rattle.locks.proofs.shown.Statement.{statement}
 use Rattle.locks.proofs.shown.Tie as tie
 
