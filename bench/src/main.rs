@@ -34,15 +34,18 @@ fn main() {
     print("mixed, call by call; model from and to image", lines(&first, true));
     let of_older = print("frames of kinds up to 0D, one session", sessions(&up_to_0d));
     let of_all = print("frames of all kinds, one session", sessions(&all_kinds));
+    let of_calls = print("frames of all kinds, call by call", lines(&all_kinds, false));
     let of_messages = print("loads by message, half damaged, one session", sessions(&messages));
     print_messages();
     print_bad_lines();
+    print_by_length();
     let of_wrapped = print_wrapped();
 
     println!();
     judge(&format!("{FRAMES} mixed frames"), of_first);
     judge(&format!("{FRAMES} frames of kinds up to 0D"), of_older);
     judge(&format!("{FRAMES} frames of all kinds"), of_all);
+    judge(&format!("{FRAMES} frames of all kinds, call by call"), of_calls);
     judge(&format!("{MESSAGES} loads by message"), of_messages);
     judge("wrapped load and clear", of_wrapped);
 }
@@ -102,6 +105,13 @@ fn print_bad_lines() {
         (131, None, "131 digits"),
     ] {
         print(&format!("no frame line: {what}"), sessions(&series::bad_lines(digits, bad)));
+    }
+}
+
+fn print_by_length() {
+    for digits in [2, 32, 130, 512, 1024] {
+        let what = format!("a line of {digits} digits, unknown kind");
+        print(&what, sessions(&series::bad_lines(digits, None)));
     }
 }
 

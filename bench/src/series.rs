@@ -101,7 +101,8 @@ pub fn four_keys(all_managed: bool, line: &str) -> Course {
     }
 }
 
-/// One line again and again that is no frame line: zeros, with a letter among them or odd in number.
+/// One line again and again that brings no frame: zeros, with a letter among them or odd in number;
+/// or of the unknown kind 00.
 pub fn bad_lines(digits: usize, bad: Option<usize>) -> Course {
     let mut line = "0".repeat(digits);
     if let Some(place) = bad {
