@@ -18,7 +18,7 @@ use Rattle.rules.specs.declared.Refusal.{Refusal}
 use Rattle.rules.specs.Numbers.{uidMost, keySize, wrappedSize, slotsSize}
 use Rattle.rules.specs.Checks.{AllPass}
 use Rattle.rules.specs.Answers.{07·10}
-use Rattle.rules.specs.State.{State, refuse, obey}
+use Rattle.rules.specs.State.{State, refuse, obey, keyEncryptionKey}
 use Rattle.rules.specs.Slots.{Contents, FitKey, FitWrapped}
 use Rattle.rules.specs.Frames as frames
 use Rattle.rules.specs.Frames.{contentsAt}
@@ -65,7 +65,7 @@ module _ (d : Registers) (keys marks : List ℕ) (ns : Namespace) (tag : Tag) (x
   kek = drop slotsSize keys
 
   by-rule : obey s (loadWrapped s ns tag x) ≡ obey s (wrappedRule s ns tag (withUid (x .uid) (unwrap kek (x .key))))
-  unfolding frameRule
+  unfolding frameRule keyEncryptionKey
   by-rule = ap (obey s) (wrapped-is s ns tag x)
 
   pub wrapped-refused : (r : Refusal) → found.Refused r ≡ located (state d [] []) ns tag → refuse s r ≡ obey s (loadWrapped s ns tag x)

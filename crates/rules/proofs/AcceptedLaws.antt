@@ -388,7 +388,7 @@ module _ (s : State) (sound : unsound s ≡ false) where
 
   pub kek-effect : (f : Frame) → Fit f → Passes s f → keyEncryptionKey (effect s f) ≡ keyEncryptionKey s
   unfolding frameRule order.manage order.release order.load order.loadWrapped order.replace order.clearOne order.clearAll order.command
-      order.setFeatures order.getFeatures order.bootWrite order.reset order.discovery setCount zeroMarks markCovered
+      order.setFeatures order.getFeatures order.bootWrite order.reset order.discovery setCount zeroMarks markCovered keyEncryptionKey
   kek-effect (manage ns tags) fit p = refl
   kek-effect (release ns) fit p = emptied-kek s cache ns (is-namespace ns (p .0))
   kek-effect (load ns tag x) fit p = store-kek s cache ns tag (named-slot s sound ns tag (is-namespace ns (p .0)) (p .1 .1 .0)) x fit

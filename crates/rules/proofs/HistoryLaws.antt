@@ -69,6 +69,10 @@ emptied-not : loaded emptied ≡ true → ⊥
 unfolding zeros
 emptied-not e = true≢false (sym e)
 
+pub fresh-kek : (kek : List ℕ) → keyEncryptionKey (fresh kek) ≡ kek
+unfolding keyEncryptionKey
+fresh-kek kek = drop-at (zeros slotsSize) kek slotsSize (length-zeros slotsSize)
+
 module _ (kek : List ℕ) (size : length kek ≡ kekSize) where
   fresh-slot : (ns : Namespace) (tag : Tag) → IsSlot ns tag → slot (fresh kek) ns tag ≡ emptied
   unfolding cell
@@ -96,7 +100,7 @@ module _ (kek : List ℕ) (size : length kek ≡ kekSize) where
   pub kept-fresh : Kept kek (fresh kek) []
   unfolding holds lastWritten tagCount
   kept-fresh = record {
-    key = drop-at (zeros slotsSize) kek slotsSize (length-zeros slotsSize);
+    key = fresh-kek kek;
     sized = fresh-sized;
     sound = fresh-sound;
     slots = fresh-slot;
