@@ -28,8 +28,11 @@ returns c =
     let in-loop : tie.In-loop Inv-loop μ-loop = search in
     let f : tie.After-item-at Inv-loop μ-loop = search in
     let l = at-loop .loop in
-    let found = sym (f .item-at .ensures) ∙ c .enum-told .given .1 in
-    (λ items r. absurd (left-none (s .bytes .now) (l .at) (s .end) (s .tag) items (l .inv .0 items r) (in-loop .loop-test .taken) found), inr (omega arith), none-at-end (s .bytes .now) (s .end))
+    let found = sym (f .item-at .ensures) ∙ c .enum-told .given .1 in (
+      λ items r. absurd (left-none (s .bytes .now) (l .at) (s .end) (s .tag) items (l .inv .0 items r) (in-loop .loop-test .taken) found),
+      inr (omega arith),
+      none-at-end (s .bytes .now) (s .end),
+    )
 
 returns-2 : tie.Need-returns-2 Inv-loop μ-loop
 returns-2 c =
@@ -142,8 +145,11 @@ returns-4 c =
     let start : tie.Start Inv-loop μ-loop = search in
     let s = start .args in
     let at-loop : tie.At-loop Inv-loop μ-loop = search in
-    let l = at-loop .loop in
-    (λ items r. left-end (s .bytes .now) (l .at) (s .end) (s .tag) items (l .inv .0 items r) (omega arith), inr (omega arith), none-at-end (s .bytes .now) (s .end))
+    let l = at-loop .loop in (
+      λ items r. left-end (s .bytes .now) (l .at) (s .end) (s .tag) items (l .inv .0 items r) (omega arith),
+      inr (omega arith),
+      none-at-end (s .bytes .now) (s .end),
+    )
 
 pub find-spec : {M : Type 1} → statement M
 find-spec =
