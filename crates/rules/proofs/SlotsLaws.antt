@@ -115,6 +115,11 @@ unfolding otherKeyIn
 same-key x c e l u =
     same-eq (keyOf c) (x .key) (no-other (loaded c) (same (uidOf c) (x .uid)) (same (keyOf c) (x .key)) e l (rw u (same-refl (x .uid))))
 
+-- an empty slot has no other key
+pub empty-other : (x : Contents) (c : List ℕ) → empty c ≡ true → otherKeyIn x c ≡ false
+unfolding otherKeyIn
+empty-other x c e = ap (λ b. not b && same (uidOf c) (x .uid) && not (same (keyOf c) (x .key))) e
+
 pub no-other-key : (s : State) (x : Contents) → otherKey (s .keys) x ≡ false → (ns : Namespace) (tag : Tag) → IsSlot ns tag
     → otherKeyIn x (slot s ns tag) ≡ false
 unfolding otherKey

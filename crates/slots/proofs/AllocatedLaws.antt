@@ -20,8 +20,8 @@ use Rattle.rules.specs.Numbers.{uidMost, tagsMost, slotWidth, slotPlaces, cache
 use Rattle.rules.specs.State.{State}
 use Rattle.rules.specs.Slots.{Contents, namespaceAt, tagAt, empty, uidOf, keyOf, otherKeyIn, otherKey}
 use Rattle.rules.specs.Sound.{slotUnsound, unsound}
-use Rattle.rules.proofs.SlotsLaws.{slot-at, place-at}
-use Rattle.rules.proofs.SoundLaws.{unallocated-is, sound-cache, sound-slot}
+use Rattle.rules.proofs.SlotsLaws.{empty-other}
+use Rattle.rules.proofs.SoundLaws.{sound-cache, counted, sound-at, unallocated-at}
 use Rattle.slots.specs.Cache.{allocated, headBytes, otherKeyBehind, otherKeyAllocated}
 use Rattle.slots.proofs.CacheLaws.{right-cache}
 use Rattle.slots.proofs.ScanLaws.{otherAt}
@@ -44,15 +44,10 @@ module _ (counts keys : List ℕ) (size : length keys ≡ cacheSize) (x : Conten
       ∙ then-none slotWidth (otherAt counts (headBytes (x .uid)) (x .key)) slotPlaces 0 keys
       (λ k l. ap (λ b. allocated counts (0 + k) && b) (long-behind x (cell slotWidth (0 + k) keys) long) ∙ and-false (allocated counts (0 + k)))
 
--- an empty slot has no other key, and no head of a KeyUID
-module _ (x : Contents) (c : List ℕ) (e : empty c ≡ true) where
-  empty-other : otherKeyIn x c ≡ false
-  unfolding otherKeyIn
-  empty-other = ap (λ b. not b && same (uidOf c) (x .uid) && not (same (keyOf c) (x .key))) e
-
-  empty-behind : 1 ≤ length (x .uid) → otherKeyBehind (headBytes (x .uid)) (x .key) c ≡ false
-  unfolding otherKeyBehind
-  empty-behind some = ap (λ b. b && not (same (keyOf c) (x .key))) (empty-head (x .uid) c some e)
+-- an empty slot has no head of a KeyUID
+empty-behind : (x : Contents) (c : List ℕ) → empty c ≡ true → 1 ≤ length (x .uid) → otherKeyBehind (headBytes (x .uid)) (x .key) c ≡ false
+unfolding otherKeyBehind
+empty-behind x c e some = ap (λ b. b && not (same (keyOf c) (x .key))) (empty-head (x .uid) c some e)
 
 by-bool : (b : Bool) {T : Type 0} → (b ≡ true → T) → (b ≡ false → T) → T
 by-bool true t f = t refl
@@ -61,20 +56,6 @@ by-bool false t f = f refl
 module _ (s : State) (sound : unsound s ≡ false) where
   abbrev at : ℕ → List ℕ
   at i = cell slotWidth i (s .keys)
-
-  abbrev pub counted : ℕ → ℕ
-  counted i = getD (s .registers .counts) (i / tagsMost) 0
-
-  pub sound-at : (i : ℕ) (b : Bool) → i < slotPlaces → leb (counted i) (i % tagsMost) ≡ b → slotUnsound b (at i) ≡ false
-  sound-at i b l h =
-      let n : i / tagsMost + 1 - 1 ≡ i / tagsMost = omega arith in
-      let u : leb (getD (s .registers .counts) (i / tagsMost + 1 - 1) 0) (i % tagsMost) ≡ b = rw n h in
-      rw (u, place-at i) at (sound-slot s sound (namespaceAt i) (tagAt i) (slot-at i l))
-
-  -- a slot at an unallocated tag is empty
-  unallocated-empty : (i : ℕ) → i < slotPlaces → counted i ≤ i % tagsMost → empty (at i) ≡ true
-  unallocated-empty i l h =
-      false-or-true (empty (at i)) (λ e. true≢false (unallocated-is (at i) e ∙ sound-at i true l (le-leb _ _ h)))
 
   module _ (x : Contents) (some : 1 ≤ length (x .uid)) where
     abbrev other : ℕ → List ℕ → Bool
@@ -86,17 +67,17 @@ module _ (s : State) (sound : unsound s ≡ false) where
         ∙ and-false (allocated (s .registers .counts) i)
         ∙ sym (empty-other x (at i) e)
 
-    allocated-same : (i : ℕ) → i < slotPlaces → i % tagsMost < counted i → empty (at i) ≡ false → other i (at i) ≡ otherKeyIn x (at i)
+    allocated-same : (i : ℕ) → i < slotPlaces → i % tagsMost < counted s sound i → empty (at i) ≡ false → other i (at i) ≡ otherKeyIn x (at i)
     allocated-same i l lt full =
         let size = sound-cache s sound in
         ap (λ b. b && otherKeyBehind (headBytes (x .uid)) (x .key) (at i)) (lt-ltb _ _ lt)
-        ∙ sound-behind (at i) (length-cell slotWidth i (s .keys) (omega arith)) (sound-at i false l (lt-leb _ _ lt)) full x
+        ∙ sound-behind (at i) (length-cell slotWidth i (s .keys) (omega arith)) (sound-at s sound i false l (lt-leb _ _ lt)) full x
 
     same-at : (i : ℕ) → i < slotPlaces → other i (at i) ≡ otherKeyIn x (at i)
     same-at i l =
-        by-cases (decLt (i % tagsMost) (counted i))
+        by-cases (decLt (i % tagsMost) (counted s sound i))
         (λ lt. by-bool (empty (at i)) (empty-same i) (allocated-same i l lt))
-        (λ ge. empty-same i (unallocated-empty i l (omega arith)))
+        (λ ge. empty-same i (unallocated-at s sound i l (omega arith)))
 
     pub sound-other-key : otherKeyAllocated (s .registers .counts) (s .keys) x ≡ otherKey (s .keys) x
     unfolding otherKey

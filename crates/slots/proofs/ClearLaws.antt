@@ -22,11 +22,10 @@ use Rattle.rules.specs.State.{State, wrongCache, namespace, keyTag, noNamespace
 use Rattle.rules.specs.Slots.{placeOf, emptied}
 use Rattle.rules.specs.Sound.{unsound}
 use Rattle.rules.proofs.StateLaws.{is-namespace}
-use Rattle.rules.proofs.SoundLaws.{sound-cache, sound-counts, above-none}
+use Rattle.rules.proofs.SoundLaws.{sound-cache, sound-counts, above-none, counted, sound-at}
 use Rattle.slots.specs.Cache.{tagsUpTo, clearedUpTo, clearedFirst, clearedAllocated}
 use Rattle.slots.proofs.CacheLaws.{cleared-up-to-is}
 use Rattle.slots.proofs.ScanLaws.{unallocated-marked}
-use Rattle.slots.proofs.AllocatedLaws.{counted, sound-at}
 
 -- ------------------------------------------------------------------------
 -- Namespace by namespace, in a cache of its length
