@@ -1,0 +1,58 @@
+-- `named` meets its contract: each return is one of the checks. `h` is the place where the first five bytes are there, `n` and `g`
+-- those where the KeyUID's length is not 0, and not above 16.
+-- Assumes nothing.
+use borrow.Author.Needs.{needs}
+use native.Mathlib.Omega.{arith}
+use mathlib.Core.Logic.{⊎-elim}
+use borrow.Author.Tests.{ltb-false}
+use Rattle.rules.specs.Fields.{byte}
+use Rattle.frames.proofs.KindsLaws.{load-short, load-bad, load-wrong, load-right, no-uid, long-uid, good-uid}
+use Rattle.frames.proofs.kinds.named.Statement.{statement}
+use Rattle.frames.proofs.kinds.named.Tie as tie
+
+returns : tie.Need-returns
+returns c =
+    let s : tie.Start = search in
+    load-short (s .args .f .now) (s .args .size) (c .if1 .taken)
+
+cast-l : tie.Need-cast-l
+cast-l c = omega (arith, c .shared-slice-known2 .given 4)
+
+returns-2 : tie.Need-returns-2
+returns-2 c =
+    let s : tie.Start = search in
+    let h : tie.Else1 = search in
+    let f = s .args .f .now in
+    load-bad f (s .args .size) (h .if1 .left) (⊎-elim (λ w. no-uid (byte 4 f) (w .taken)) (λ w. long-uid (byte 4 f) (w .1 .taken)) (c .if2 .came))
+
+add-if4 : tie.Need-add-if4
+add-if4 c = omega (arith, ltb-false)
+
+add-if4-2 : tie.Need-add-if4-2
+add-if4-2 c = omega (arith, ltb-false)
+
+returns-3 : tie.Need-returns-3
+returns-3 c =
+    let s : tie.Start = search in
+    let h : tie.Else1 = search in
+    let n : tie.Else2 = search in
+    let g : tie.Else3 = search in
+    load-wrong (s .args .f .now) (s .args .size) (h .if1 .left) (good-uid _ (n .if2 .left) (g .if3 .left)) (c .if4 .taken)
+
+returns-4 : tie.Need-returns-4
+returns-4 c =
+    let s : tie.Start = search in
+    let h : tie.Else1 = search in
+    let n : tie.Else2 = search in
+    let g : tie.Else3 = search in
+    let e : tie.Else4 = search in
+    let ns : tie.After-namespace-of = search in
+    rw (ns .namespace-of .ensures, c .word .ensures)
+    (load-right (s .args .f .now) (s .args .size) (h .if1 .left) (good-uid _ (n .if2 .left) (g .if3 .left)) (e .if4 .left))
+
+pub named-spec : {M : Type 1} → statement M
+named-spec =
+    tie.close
+    (tie.spec
+    returns (λ c. search needs) cast-l returns-2 add-if4 add-if4-2 returns-3
+    (λ c. search needs) (λ c κs. search needs) (λ c κs. search needs) returns-4)
