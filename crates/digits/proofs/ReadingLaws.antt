@@ -16,7 +16,8 @@ use borrow.Author.Tests.{leb-true, eq-eqb, ne-eqb, lt-ltb, le-ltb, eqb-false}
 use Rattle.cells.proofs.CellsLaws.{grow}
 use Rattle.cells.proofs.PredicatesLaws.{and-left, and-right, true-or-false}
 use Rattle.rules.specs.FrameLine.{isDigit, valueOf, firstBad, decoded}
-use Rattle.digits.specs.Decoding.{Valued, Larger, allDigits, framed}
+use Rattle.digits.specs.Decoding.{Valued, Larger, allDigits}
+use Rattle.digits.specs.Digits.{framed}
 
 pub outside : (a z d : ℕ) → (a ≤ d → d ≤ z → ⊥) → leb a d && leb d z ≡ false
 outside a z d out = true-or-false _ (λ e. out (leb-true a d (and-left _ _ e)) (leb-true d z (and-right (leb a d) _ e)))
@@ -130,7 +131,6 @@ module _ (line : List ℕ) (i : ℕ) where
 
   -- the end: no pair is left
   pub decode-end : (frame : List ℕ) → i ≡ length line / 2 → decoded (take (i * 2) line) ++ drop i frame ≡ framed line frame
-  unfolding framed
   decode-end frame e =
       by-cases (decLt (i * 2) (length line))
       (λ odd. rw (← e, ← lone-digit odd, take-all (suc (i * 2)) line (omega arith)))

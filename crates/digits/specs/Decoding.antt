@@ -2,14 +2,14 @@
 -- Assumes nothing.
 use mathlib.Core.Path.{_≡_}
 use mathlib.Core.Bool.{Bool, true, false}
-use mathlib.Core.List.{List, _++_}
+use mathlib.Core.List.{List}
 use mathlib.Core.Option.{Option, none, some}
-use Prim.Native.Nat.{ℕ, _/_, _%_, _≤_, _<_}
-use lib.ListN.{length, drop}
+use Prim.Native.Nat.{ℕ, _%_, _≤_, _<_}
+use lib.ListN.{length}
 use lib.Dec.{eqb}
 use Rattle.rules.specs.declared.BadLine.{BadLine}
 use Rattle.rules.specs.Answers.{reason, placeIn}
-use Rattle.rules.specs.FrameLine.{isDigit, valueOf, firstBad, decoded}
+use Rattle.rules.specs.FrameLine.{isDigit, valueOf, firstBad}
 use Rattle.digits.specs.declared.Fault.{Fault}
 
 -- v is the value of the digit d; above 15 where d is no digit, and then its last four bits are zero
@@ -27,10 +27,6 @@ pub record Larger (a b r : ℕ) : Type 0 where
 -- no byte is bad
 abbrev pub allDigits : List ℕ → Bool
 allDigits line = eqb (firstBad line) (length line)
-
--- the frame of `readInto`, for a line of a good length
-unfoldable pub framed : List ℕ → List ℕ → List ℕ
-framed line frame = decoded line ++ drop (length line / 2) frame
 
 -- what a fault has to tell, as numbers: reason 0 for none
 abbrev pub tells : Option BadLine → Fault

@@ -20,11 +20,15 @@ pub record ReadInto : Type 0 where
   pub read : LineRead
   pub frame : List ℕ
 
--- the pairs of digits go to the front of the frame, also where one is bad; the rest of it stays
+-- the pairs of digits at the front of the frame, the rest of it as it was
+abbrev pub framed : List ℕ → List ℕ → List ℕ
+framed line frame = decoded line ++ drop (length line / 2) frame
+
+-- they go there also where one is bad
 unfoldable pub readInto : List ℕ → List ℕ → ReadInto
 readInto line frame = record {
   read = readLine line;
-  frame = cond (lineLength line) (decoded line ++ drop (length line / 2) frame) frame;
+  frame = cond (lineLength line) (framed line frame) frame;
 }
 
 pub record Wrote : Type 0 where

@@ -3,7 +3,8 @@ ghost use mathlib.Core.Path.{_≡_};
 ghost use Prim.Native.Nat.{_/_, _≤_};
 ghost use lib.ListN.{length};
 ghost use Rattle.rules.specs.FrameLine.{firstBad};
-ghost use Rattle.digits.specs.Decoding.{Valued, Larger, allDigits, framed};
+ghost use Rattle.digits.specs.Decoding.{Valued, Larger, allDigits};
+ghost use Rattle.digits.specs.Digits.{framed};
 use std::num::wrapping_sub_u8;
 
 // A digit's value; above 15 for a byte that is no digit. Compiled, it has no branch.

@@ -10,7 +10,6 @@ use Rattle.rules.specs.declared.LineRead.the-variants.{Bytes, Bad}
 use Rattle.rules.specs.Checks.{judged}
 use Rattle.rules.specs.FrameLine.{firstBad, lineChecks, readLine}
 use Rattle.digits.specs.Digits.{readInto}
-use Rattle.digits.specs.Decoding.{framed}
 use Rattle.digits.proofs.ReadingLaws.{some-bad}
 use Rattle.digits.proofs.read_line.Statement.{statement}
 use Rattle.digits.proofs.read_line.Tie as tie
@@ -32,7 +31,7 @@ decides : (d : tie.After-decode) → let s : tie.Start = search in
       read = judged (drop 2 (lineChecks (s .args .line .now))) Bad (Bytes (length (s .args .line .now) / 2));
       frame = d .decode .last .1 .0;
     }
-unfolding readInto readLine lineChecks framed
+unfolding readInto readLine lineChecks
 decides d =
     let n : tie.Else2 = search in
     let else1 : tie.Else1 = search in
