@@ -1,6 +1,5 @@
 // One call of the library, and what its line of text says after the label.
 use crate::Cache;
-use crate::KEK;
 use crate::MOST;
 use crate::Marks;
 use crate::ROOM;
@@ -11,6 +10,7 @@ use crate::text::least;
 use drive::Answered;
 use drive::Reply;
 use rules::CACHE_SIZE;
+use rules::PROGRAM_KEK;
 use rules::Registers;
 use rules::SLOTS_SIZE;
 
@@ -75,7 +75,7 @@ pub(crate) fn line(
 fn lend_start(keys: &mut [u8], marks: &mut [u8], store: usize, cache: usize) -> Answered {
     let k = least(cache, keys.len());
     let n = least(store, marks.len());
-    let kek = KEK;
+    let kek = PROGRAM_KEK;
     drive::start(&kek, &mut keys[0..k], &mut marks[0..n])
 }
 
@@ -86,7 +86,7 @@ fn all_zero(marks: &[u8], store: usize) -> bool {
 
 // No keys, and the key-encryption key of a start behind them.
 fn fresh_cache(keys: &[u8]) -> bool {
-    let kek = KEK;
+    let kek = PROGRAM_KEK;
     let k = least(SLOTS_SIZE, keys.len());
     if !cells::all_zero(&keys[0..k]) {
         return false;

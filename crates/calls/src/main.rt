@@ -13,7 +13,6 @@ mod text;
 use libc::STDIN_FILENO;
 use rules::CACHE_SIZE;
 use rules::DISCOVERY_MOST;
-use rules::KEK_SIZE;
 use rules::Registers;
 use rules::STORE_SIZE;
 
@@ -25,11 +24,6 @@ pub const MOST: usize = STORE_SIZE + 1;
 
 // The longest output that is lent: some bytes more than the longest answer.
 pub const ROOM: usize = DISCOVERY_MOST + 7;
-
-// The key-encryption key of a start; a drive that is made has one of zeros.
-pub const KEK: [u8; KEK_SIZE] = *b"\
-    \x00\x01\x02\x03\x04\x05\x06\x07\x08\x09\x0A\x0B\x0C\x0D\x0E\x0F\
-    \x10\x11\x12\x13\x14\x15\x16\x17\x18\x19\x1A\x1B\x1C\x1D\x1E\x1F";
 
 pub type Cache = [u8; CACHE_SIZE];
 

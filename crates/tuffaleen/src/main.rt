@@ -5,7 +5,7 @@ use libc::STDOUT_FILENO;
 use rules::ANSWER_MOST;
 use rules::Answer;
 use rules::CACHE_SIZE;
-use rules::KEK_SIZE;
+use rules::PROGRAM_KEK;
 use rules::Refusal;
 use rules::STORE_SIZE;
 
@@ -14,11 +14,6 @@ use rules::STORE_SIZE;
 const INPUT: usize = 4096;
 
 const OUTPUT: usize = INPUT * ANSWER_MOST;
-
-// The drive's key-encryption key: bytes 00 to 1F.
-const KEK: [u8; KEK_SIZE] = *b"\
-    \x00\x01\x02\x03\x04\x05\x06\x07\x08\x09\x0A\x0B\x0C\x0D\x0E\x0F\
-    \x10\x11\x12\x13\x14\x15\x16\x17\x18\x19\x1A\x1B\x1C\x1D\x1E\x1F";
 
 fn print(answers: &[u8]) {
     if !io::write_all(STDOUT_FILENO, answers) {
@@ -58,7 +53,7 @@ fn main() {
     let mut keys = [0u8; CACHE_SIZE];
     let mut marks = [0u8; STORE_SIZE];
     let mut out = [0u8; OUTPUT];
-    let kek = KEK;
+    let kek = PROGRAM_KEK;
     let started = drive::start(&kek, &mut keys, &mut marks);
     let fresh = started.registers;
     let ran = drive::answer_session(fresh, &mut keys, &mut marks, &text[..n], &mut out);
