@@ -4,7 +4,7 @@ ghost use mathlib.Core.List.{_++_};
 ghost use Prim.Native.Nat.{_+_, _-_, _/_, _≤_, _<_};
 ghost use lib.ListN.{length, getD, take, drop};
 ghost use Rattle.cells.specs.Cells.{zeros};
-ghost use Rattle.rules.specs.Aes.{roundConstants};
+ghost use Rattle.rules.specs.Aes.{cipherKeySize, scheduleWords, roundConstants};
 ghost use Rattle.aes.specs.ByTables.{wordsOf, subWordBy, turnedBy, expandedBy, unmixedWord, unmixedBy};
 use crate::columns::column;
 use crate::columns::substituted;
@@ -28,7 +28,7 @@ fn sub_word(sub: &[u8; 256], w: u32) -> u32
 
 // What word i - 8 is added to, made of word i - 1.
 fn turned(sub: &[u8; 256], i: usize, temp: u32) -> u32
-    requires { ⌜ (8 ≤ i) × (i < 60) ⌝ }
+    requires { ⌜ (8 ≤ i) × (i < scheduleWords) ⌝ }
     ensures { λ r. ⌜ r ≡ turnedBy (now (sub .entry)) i temp ⌝ }
 {
     if i % 8 == 0 {
@@ -42,7 +42,7 @@ fn turned(sub: &[u8; 256], i: usize, temp: u32) -> u32
 
 // The key's own words, at the front.
 pub(crate) fn first_words(key: &[u8], w: &mut [u32])
-    requires { ⌜ (length (now key) ≡ 32) × (length (now w) ≡ 60) ⌝ }
+    requires { ⌜ (length (now key) ≡ cipherKeySize) × (length (now w) ≡ scheduleWords) ⌝ }
     ensures { λ _. ⌜ now (w .exit) ≡ wordsOf (now (key .entry)) 8 ++ drop 8 (now (w .entry)) ⌝ }
 {
     let mut i = 0;
@@ -54,7 +54,7 @@ pub(crate) fn first_words(key: &[u8], w: &mut [u32])
 
 // The 52 words behind them.
 pub(crate) fn next_words(sub: &[u8; 256], w: &mut [u32])
-    requires { ⌜ length (now w) ≡ 60 ⌝ }
+    requires { ⌜ length (now w) ≡ scheduleWords ⌝ }
     ensures { λ _. ⌜ now (w .exit) ≡ expandedBy (now (sub .entry)) (take 8 (now (w .entry))) 52 ⌝ }
 {
     let mut n = 0;
@@ -74,7 +74,7 @@ fn unmixed(table: &[u32; 256], sub: &[u8; 256], w: u32) -> u32
 
 // The words of rounds 1 to 13 mixed back.
 pub(crate) fn unmix(table: &[u32; 256], sub: &[u8; 256], w: &mut [u32])
-    requires { ⌜ length (now w) ≡ 60 ⌝ }
+    requires { ⌜ length (now w) ≡ scheduleWords ⌝ }
     ensures { λ _. ⌜ now (w .exit) ≡ unmixedBy (now (table .entry)) (now (sub .entry)) (now (w .entry)) ⌝ }
 {
     let mut i = 4;
@@ -85,7 +85,7 @@ pub(crate) fn unmix(table: &[u32; 256], sub: &[u8; 256], w: &mut [u32])
 }
 
 pub(crate) fn wipe(w: &mut [u32])
-    requires { ⌜ length (now w) ≡ 60 ⌝ }
+    requires { ⌜ length (now w) ≡ scheduleWords ⌝ }
     ensures { λ _. ⌜ now (w .exit) ≡ zeros (length (now (w .entry))) ⌝ }
 {
     let mut i = 0;

@@ -8,7 +8,7 @@ ghost use lib.ListN.{length};
 ghost use Prim.Native.Nat.{_+_};
 ghost use Rattle.cells.specs.Cells.{within, write, zeros};
 ghost use Rattle.rules.specs.Fields.{fourBytes};
-ghost use Rattle.rules.specs.Aes.{cipher as cipherOf, invCipher};
+ghost use Rattle.rules.specs.Aes.{cipherKeySize, scheduleWords, cipher as cipherOf, invCipher};
 ghost use Rattle.fips197.specs.Boxes.{sbox, invSbox};
 ghost use Rattle.aes.specs.Words.{wordAt, blockOf, bytesOf, Fit};
 ghost use Rattle.aes.specs.Tables.{mixTable, invMixTable};
@@ -91,7 +91,7 @@ pub fn put_word(bytes: &mut [u8], at: usize, w: u32)
 
 // The key expansion, of a key of 32 bytes; any other leaves the words alone.
 fn expand_by(sub: &[u8; 256], key: &[u8], w: &mut [u32; SCHEDULE])
-    ensures { λ _. ⌜ now (w .exit) ≡ cond (eqb (length (now (key .entry))) 32)
+    ensures { λ _. ⌜ now (w .exit) ≡ cond (eqb (length (now (key .entry))) cipherKeySize)
         (expandedBy (now (sub .entry)) (wordsOf (now (key .entry)) 8) 52) (now (w .entry)) ⌝ }
 {
     if key.len() != KEY_SIZE {
@@ -110,7 +110,7 @@ fn unmix_by(table: &[u32; 256], sub: &[u8; 256], w: &mut [u32; SCHEDULE])
 
 // Both with the right tables.
 pub fn expand(key: &[u8], w: &mut [u32; SCHEDULE])
-    ensures { λ _. ⌜ now (w .exit) ≡ cond (eqb (length (now (key .entry))) 32) (expandedBy sbox (wordsOf (now (key .entry)) 8) 52) (now (w .entry)) ⌝ }
+    ensures { λ _. ⌜ now (w .exit) ≡ cond (eqb (length (now (key .entry))) cipherKeySize) (expandedBy sbox (wordsOf (now (key .entry)) 8) 52) (now (w .entry)) ⌝ }
 {
     let sub = sub_table();
     expand_by(&sub, key, w);
@@ -125,7 +125,7 @@ pub fn unmix(w: &mut [u32; SCHEDULE])
 }
 
 pub fn wipe(w: &mut [u32; SCHEDULE])
-    ensures { λ _. ⌜ now (w .exit) ≡ zeros 60 ⌝ }
+    ensures { λ _. ⌜ now (w .exit) ≡ zeros scheduleWords ⌝ }
 {
     keys::wipe(w);
 }
@@ -172,8 +172,8 @@ fn decoded(w: &[u32; SCHEDULE], block: Block) -> Block
 
 // FIPS 197's cipher under a key of 32 bytes; under any other a block stays. The round keys go through words that are lent, and wiped.
 pub fn cipher(key: &[u8], w: &mut [u32; SCHEDULE], block: Block) -> Block
-    ensures { λ r. ⌜ (r ≡ cond (eqb (length (now (key .entry))) 32) (blockOf (cipherOf (now (key .entry)) (bytesOf block))) block)
-        × (now (w .exit) ≡ zeros 60) ⌝ }
+    ensures { λ r. ⌜ (r ≡ cond (eqb (length (now (key .entry))) cipherKeySize) (blockOf (cipherOf (now (key .entry)) (bytesOf block))) block)
+        × (now (w .exit) ≡ zeros scheduleWords) ⌝ }
 {
     if key.len() != KEY_SIZE {
         wipe(w);
@@ -186,8 +186,8 @@ pub fn cipher(key: &[u8], w: &mut [u32; SCHEDULE], block: Block) -> Block
 }
 
 pub fn inv_cipher(key: &[u8], w: &mut [u32; SCHEDULE], block: Block) -> Block
-    ensures { λ r. ⌜ (r ≡ cond (eqb (length (now (key .entry))) 32) (blockOf (invCipher (now (key .entry)) (bytesOf block))) block)
-        × (now (w .exit) ≡ zeros 60) ⌝ }
+    ensures { λ r. ⌜ (r ≡ cond (eqb (length (now (key .entry))) cipherKeySize) (blockOf (invCipher (now (key .entry)) (bytesOf block))) block)
+        × (now (w .exit) ≡ zeros scheduleWords) ⌝ }
 {
     if key.len() != KEY_SIZE {
         wipe(w);

@@ -5,6 +5,7 @@ ghost use Prim.Native.Nat.{ℕ, _+_, _/_, _≤_};
 ghost use lib.ListN.{length, drop};
 ghost use Rattle.cells.specs.Cells.{part, zeros};
 ghost use Rattle.rules.specs.Numbers.{keySize, uidMost, digitsMost};
+ghost use Rattle.rules.specs.Aes.{scheduleWords};
 ghost use Rattle.rules.specs.State.{obey};
 ghost use Rattle.rules.specs.Slots.{FitKey};
 ghost use Rattle.rules.specs.Frames.{contentsAt};
@@ -96,7 +97,7 @@ fn act(
     ensures { λ r. ⌜ (outcome r (now (keys .exit)) (now (marks .exit))
         ≡ acted (state registers (now (keys .entry)) (now (marks .entry))) (meant (now (f .entry)) read))
         × (drop replaceMost (now (f .exit)) ≡ drop replaceMost (now (f .entry)))
-        × (now (words .entry) ≡ zeros 60 → now (words .exit) ≡ zeros 60) ⌝ }
+        × (now (words .entry) ≡ zeros scheduleWords → now (words .exit) ≡ zeros scheduleWords) ⌝ }
 {
     match read {
         FrameRead::Manage(ns, tags) => keys::manage(registers, ns, tags),
@@ -143,12 +144,12 @@ pub(crate) fn on_line(
     brought: &mut [u8; BROUGHT_MOST],
     words: &mut [u32; SCHEDULE],
 ) -> Answered
-    requires { ⌜ Ready registers (now keys) (now marks) × (now frame ≡ zeros (digitsMost / 2)) × (now words ≡ zeros 60) ⌝ }
+    requires { ⌜ Ready registers (now keys) (now marks) × (now frame ≡ zeros (digitsMost / 2)) × (now words ≡ zeros scheduleWords) ⌝ }
     ensures { λ r. ⌜ (outcome r (now (keys .exit)) (now (marks .exit))
         ≡ step (state registers (now (keys .entry)) (now (marks .entry))) (now (line .entry)))
         × (now (frame .exit) ≡ zeros (digitsMost / 2))
         × (now (brought .exit) ≡ zeros (uidMost + keySize))
-        × (now (words .exit) ≡ zeros 60) ⌝ }
+        × (now (words .exit) ≡ zeros scheduleWords) ⌝ }
 {
     let read = frames::read(line, frame, brought);
     let told = act(registers, keys, marks, frame, read, words);

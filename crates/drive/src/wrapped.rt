@@ -6,6 +6,7 @@ ghost use lib.ListN.{length, drop};
 ghost use Rattle.cells.specs.Cells.{part, write, zeros};
 ghost use Rattle.rules.specs.Numbers.{uidMost, wrappedSize, slotsSize, cacheSize};
 ghost use Rattle.rules.specs.Checks.{AllPass};
+ghost use Rattle.rules.specs.Aes.{scheduleWords};
 ghost use Rattle.rules.specs.KeyWrap.{unwrap};
 ghost use Rattle.rules.specs.State.{obey};
 ghost use Rattle.rules.specs.Slots.{FitKey, FitWrapped};
@@ -34,7 +35,7 @@ fn open(keys: &[u8], f: &mut [u8], l: usize, words: &mut [u32; SCHEDULE]) -> boo
     ensures { λ r. ⌜ (r ≡ told (unwrap (drop slotsSize (now (keys .entry))) (part (5 + l) wrappedSize (now (f .entry)))) .opened)
         × (now (f .exit) ≡ write (5 + l) wrappedSize
         (told (unwrap (drop slotsSize (now (keys .entry))) (part (5 + l) wrappedSize (now (f .entry)))) .bytes) (now (f .entry)))
-        × (now (words .exit) ≡ zeros 60) ⌝ }
+        × (now (words .exit) ≡ zeros scheduleWords) ⌝ }
 {
     let u = 5 + l;
     let e = u + WRAPPED_SIZE;
@@ -77,7 +78,7 @@ fn opened(
         ≡ obey (state registers (now (keys .entry)) marks)
         (wrappedRule (state registers (now (keys .entry)) marks) ns tag (contentsAt wrappedSize 5 l (now (f .entry)))))
         × (drop replaceMost (now (f .exit)) ≡ drop replaceMost (now (f .entry)))
-        × (now (words .exit) ≡ zeros 60) ⌝ }
+        × (now (words .exit) ≡ zeros scheduleWords) ⌝ }
 {
     if !open(keys, f, l, words) {
         return refused(registers, Refusal::IntegrityFailed);
@@ -100,7 +101,7 @@ pub(crate) fn load(
         ≡ obey (state registers (now (keys .entry)) marks)
         (wrappedRule (state registers (now (keys .entry)) marks) ns tag (contentsAt wrappedSize 5 l (now (f .entry)))))
         × (drop replaceMost (now (f .exit)) ≡ drop replaceMost (now (f .entry)))
-        × (now (words .entry) ≡ zeros 60 → now (words .exit) ≡ zeros 60) ⌝ }
+        × (now (words .entry) ≡ zeros scheduleWords → now (words .exit) ≡ zeros scheduleWords) ⌝ }
 {
     match locate(registers, ns, tag) {
         Found::Refused(r) => refused(registers, r),

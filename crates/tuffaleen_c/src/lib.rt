@@ -4,6 +4,7 @@ ghost use Rattle.tuffaleen_c.specs.Image.{cStart, cCall, cSession};
 ghost use Rattle.tuffaleen_c.specs.Host.{cDiscovery};
 ghost use lib.ListN.{drop};
 ghost use Rattle.cells.specs.Cells.{zeros};
+ghost use Rattle.rules.specs.Aes.{scheduleWords};
 ghost use Rattle.rules.specs.KeyWrap.{wrap as wrapped};
 ghost use Rattle.tuffaleen_c.specs.Office.{cMessage};
 ghost use Rattle.tuffaleen_c.specs.Courier.{cUnwrap};
@@ -134,7 +135,7 @@ pub extern "C" fn tuffaleen_wrap(
     bytes: &mut [u8; WRAPPED_SIZE],
     words: &mut [u32; SCHEDULE],
 )
-    ensures { λ _. ⌜ (now (bytes .exit) ≡ wrapped (now (kek .entry)) (drop 8 (now (bytes .entry)))) × (now (words .exit) ≡ zeros 60) ⌝ }
+    ensures { λ _. ⌜ (now (bytes .exit) ≡ wrapped (now (kek .entry)) (drop 8 (now (bytes .entry)))) × (now (words .exit) ≡ zeros scheduleWords) ⌝ }
 {
     wrap::wrap(kek, bytes, words);
 }
@@ -147,7 +148,7 @@ pub extern "C" fn tuffaleen_unwrap(
     words: &mut [u32; SCHEDULE],
 ) -> u16
     ensures { λ r. ⌜ (record { number = r; bytes = now (bytes .exit) } ≡ cUnwrap (now (kek .entry)) (now (bytes .entry)))
-        × (now (words .exit) ≡ zeros 60) ⌝ }
+        × (now (words .exit) ≡ zeros scheduleWords) ⌝ }
 {
     if wrap::unwrap(kek, bytes, words) {
         return digits::number(Answer::Done);

@@ -5,11 +5,12 @@ ghost use mathlib.Core.List.{_++_};
 ghost use lib.Dec.{eqb};
 ghost use lib.ListN.{length, drop};
 ghost use Rattle.cells.specs.Cells.{zeros};
-ghost use Rattle.rules.specs.Aes.{keyExpansion};
+ghost use Rattle.rules.specs.Numbers.{kekSize, wrappedSize};
+ghost use Rattle.rules.specs.Aes.{scheduleWords, keyExpansion};
 ghost use Rattle.rules.specs.KeyWrap.{wrapSteps, unwrapSteps, initialValue};
 ghost use Rattle.wrap.specs.Wrapping.{wrappedIn, openedIn};
 use aes::SCHEDULE;
-use rules::KEY_SIZE;
+use rules::KEK_SIZE;
 use rules::WRAPPED_SIZE;
 
 mod steps;
@@ -21,7 +22,7 @@ const INITIAL_VALUE: [u8; VALUE_SIZE] = *b"\xA6\xA6\xA6\xA6\xA6\xA6\xA6\xA6";
 
 // Wraps the key that the last 32 of 40 bytes hold; where a size is wrong, nothing.
 pub fn wrap(kek: &[u8], bytes: &mut [u8], w: &mut [u32; SCHEDULE])
-    ensures { λ _. ⌜ (now (bytes .exit) ≡ wrappedIn (now (kek .entry)) (now (bytes .entry))) × (now (w .exit) ≡ zeros 60) ⌝ }
+    ensures { λ _. ⌜ (now (bytes .exit) ≡ wrappedIn (now (kek .entry)) (now (bytes .entry))) × (now (w .exit) ≡ zeros scheduleWords) ⌝ }
 {
     if !sized(kek.len(), bytes.len()) {
         aes::wipe(w);
@@ -35,7 +36,7 @@ pub fn wrap(kek: &[u8], bytes: &mut [u8], w: &mut [u32; SCHEDULE])
 // Whether the 40 bytes are a wrapped key. If they are, the key comes to stand in the last 32; if not, all become zero.
 pub fn unwrap(kek: &[u8], bytes: &mut [u8], w: &mut [u32; SCHEDULE]) -> bool
     ensures { λ r. ⌜ (record { opened = r; bytes = now (bytes .exit) } ≡ openedIn (now (kek .entry)) (now (bytes .entry))) ×
-        (now (w .exit) ≡ zeros 60) ⌝ }
+        (now (w .exit) ≡ zeros scheduleWords) ⌝ }
 {
     if !sized(kek.len(), bytes.len()) {
         aes::wipe(w);
@@ -52,14 +53,14 @@ pub fn unwrap(kek: &[u8], bytes: &mut [u8], w: &mut [u32; SCHEDULE]) -> bool
 }
 
 fn sized(kek: usize, bytes: usize) -> bool
-    ensures { λ r. ⌜ r ≡ eqb kek 32 && eqb bytes 40 ⌝ }
+    ensures { λ r. ⌜ r ≡ eqb kek kekSize && eqb bytes wrappedSize ⌝ }
 {
-    (kek == KEY_SIZE) & (bytes == WRAPPED_SIZE)
+    (kek == KEK_SIZE) & (bytes == WRAPPED_SIZE)
 }
 
 // The integrity value at the front.
 fn begin(bytes: &mut [u8])
-    requires { ⌜ length (now bytes) ≡ 40 ⌝ }
+    requires { ⌜ length (now bytes) ≡ wrappedSize ⌝ }
     ensures { λ _. ⌜ now (bytes .exit) ≡ initialValue ++ drop 8 (now (bytes .entry)) ⌝ }
 {
     let initial = INITIAL_VALUE;
@@ -67,7 +68,7 @@ fn begin(bytes: &mut [u8])
 }
 
 fn seal(kek: &[u8], bytes: &mut [u8], w: &mut [u32; SCHEDULE])
-    requires { ⌜ (length (now kek) ≡ 32) × (length (now bytes) ≡ 40) ⌝ }
+    requires { ⌜ (length (now kek) ≡ kekSize) × (length (now bytes) ≡ wrappedSize) ⌝ }
     ensures { λ _. ⌜ now (bytes .exit) ≡ wrapSteps (keyExpansion (now (kek .entry))) 24 (now (bytes .entry)) ⌝ }
 {
     aes::expand(kek, w);
@@ -75,7 +76,7 @@ fn seal(kek: &[u8], bytes: &mut [u8], w: &mut [u32; SCHEDULE])
 }
 
 fn unseal(kek: &[u8], bytes: &mut [u8], w: &mut [u32; SCHEDULE])
-    requires { ⌜ (length (now kek) ≡ 32) × (length (now bytes) ≡ 40) ⌝ }
+    requires { ⌜ (length (now kek) ≡ kekSize) × (length (now bytes) ≡ wrappedSize) ⌝ }
     ensures { λ _. ⌜ now (bytes .exit) ≡ unwrapSteps (keyExpansion (now (kek .entry))) 24 (now (bytes .entry)) ⌝ }
 {
     aes::expand(kek, w);

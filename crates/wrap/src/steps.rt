@@ -2,6 +2,7 @@
 ghost use mathlib.Core.Path.{_≡_};
 ghost use Prim.Native.Nat.{_+_, _≤_};
 ghost use lib.ListN.{length};
+ghost use Rattle.rules.specs.Numbers.{keySize, wrappedSize};
 ghost use Rattle.fips197.specs.Boxes.{sbox, invSbox};
 ghost use Rattle.aes.specs.Tables.{mixTable, invMixTable};
 ghost use Rattle.aes.specs.ByTables.{cipherBy, invCipherBy};
@@ -13,7 +14,7 @@ const STEPS: usize = 24;
 
 // A and the block that begins at `at`.
 fn block_at(bytes: &[u8], at: usize) -> Block
-    requires { ⌜ (at ≤ 32) × (length (now bytes) ≡ 40) ⌝ }
+    requires { ⌜ (at ≤ keySize) × (length (now bytes) ≡ wrappedSize) ⌝ }
     ensures { λ r. ⌜ r ≡ blockAt at (now (bytes .entry)) ⌝ }
 {
     Block {
@@ -25,7 +26,7 @@ fn block_at(bytes: &[u8], at: usize) -> Block
 }
 
 fn put_block(bytes: &mut [u8], at: usize, x: Block)
-    requires { ⌜ (at ≤ 32) × (length (now bytes) ≡ 40) ⌝ }
+    requires { ⌜ (at ≤ keySize) × (length (now bytes) ≡ wrappedSize) ⌝ }
     ensures { λ _. ⌜ now (bytes .exit) ≡ putBlock at x (now (bytes .entry)) ⌝ }
 {
     aes::put_word(bytes, at, x.c);
@@ -47,9 +48,9 @@ fn counted(t: usize, x: Block) -> Block
 }
 
 fn wrap_step(table: &[u32; 256], sub: &[u8; 256], w: &[u32; SCHEDULE], t: usize, bytes: &mut [u8])
-    requires { ⌜ (1 ≤ t) × (t ≤ 24) × (length (now bytes) ≡ 40) ⌝ }
+    requires { ⌜ (1 ≤ t) × (t ≤ 24) × (length (now bytes) ≡ wrappedSize) ⌝ }
     ensures { λ _. ⌜ (now (bytes .exit) ≡ wrapStepBy (cipherBy (now (table .entry)) (now (sub .entry)) (now (w .entry))) t (now (bytes .entry)))
-        × (length (now (bytes .exit)) ≡ 40) ⌝ }
+        × (length (now (bytes .exit)) ≡ wrappedSize) ⌝ }
 {
     let at = ((t - 1) % 4 + 1) * 8;
     let x = aes::cipher_by(table, sub, w, block_at(bytes, at));
@@ -57,9 +58,9 @@ fn wrap_step(table: &[u32; 256], sub: &[u8; 256], w: &[u32; SCHEDULE], t: usize,
 }
 
 fn unwrap_step(table: &[u32; 256], sub: &[u8; 256], w: &[u32; SCHEDULE], t: usize, bytes: &mut [u8])
-    requires { ⌜ (1 ≤ t) × (t ≤ 24) × (length (now bytes) ≡ 40) ⌝ }
+    requires { ⌜ (1 ≤ t) × (t ≤ 24) × (length (now bytes) ≡ wrappedSize) ⌝ }
     ensures { λ _. ⌜ (now (bytes .exit) ≡ unwrapStepBy (invCipherBy (now (table .entry)) (now (sub .entry)) (now (w .entry))) t (now (bytes .entry)))
-        × (length (now (bytes .exit)) ≡ 40) ⌝ }
+        × (length (now (bytes .exit)) ≡ wrappedSize) ⌝ }
 {
     let at = ((t - 1) % 4 + 1) * 8;
     let x = aes::inv_cipher_by(table, sub, w, counted(t, block_at(bytes, at)));
@@ -67,7 +68,7 @@ fn unwrap_step(table: &[u32; 256], sub: &[u8; 256], w: &[u32; SCHEDULE], t: usiz
 }
 
 fn wrap_steps(table: &[u32; 256], sub: &[u8; 256], w: &[u32; SCHEDULE], bytes: &mut [u8])
-    requires { ⌜ length (now bytes) ≡ 40 ⌝ }
+    requires { ⌜ length (now bytes) ≡ wrappedSize ⌝ }
     ensures { λ _. ⌜ now (bytes .exit) ≡ wrapStepsBy (cipherBy (now (table .entry)) (now (sub .entry)) (now (w .entry))) 24 (now (bytes .entry)) ⌝ }
 {
     let mut t = 0;
@@ -78,7 +79,7 @@ fn wrap_steps(table: &[u32; 256], sub: &[u8; 256], w: &[u32; SCHEDULE], bytes: &
 }
 
 fn unwrap_steps(table: &[u32; 256], sub: &[u8; 256], w: &[u32; SCHEDULE], bytes: &mut [u8])
-    requires { ⌜ length (now bytes) ≡ 40 ⌝ }
+    requires { ⌜ length (now bytes) ≡ wrappedSize ⌝ }
     ensures { λ _. ⌜ now (bytes .exit) ≡ unwrapStepsBy (invCipherBy (now (table .entry)) (now (sub .entry)) (now (w .entry))) 24 (now (bytes .entry)) ⌝ }
 {
     let mut t = STEPS;
@@ -90,7 +91,7 @@ fn unwrap_steps(table: &[u32; 256], sub: &[u8; 256], w: &[u32; SCHEDULE], bytes:
 
 // All of them, with the tables of the cipher, made once.
 pub(crate) fn wrap_all(w: &[u32; SCHEDULE], bytes: &mut [u8])
-    requires { ⌜ length (now bytes) ≡ 40 ⌝ }
+    requires { ⌜ length (now bytes) ≡ wrappedSize ⌝ }
     ensures { λ _. ⌜ now (bytes .exit) ≡ wrapStepsBy (cipherBy mixTable sbox (now (w .entry))) 24 (now (bytes .entry)) ⌝ }
 {
     let table = aes::mix_table();
@@ -99,7 +100,7 @@ pub(crate) fn wrap_all(w: &[u32; SCHEDULE], bytes: &mut [u8])
 }
 
 pub(crate) fn unwrap_all(w: &[u32; SCHEDULE], bytes: &mut [u8])
-    requires { ⌜ length (now bytes) ≡ 40 ⌝ }
+    requires { ⌜ length (now bytes) ≡ wrappedSize ⌝ }
     ensures { λ _. ⌜ now (bytes .exit) ≡ unwrapStepsBy (invCipherBy invMixTable invSbox (now (w .entry))) 24 (now (bytes .entry)) ⌝ }
 {
     let table = aes::inv_mix_table();

@@ -7,6 +7,7 @@ use Prim.Native.Nat.{_-_, _/_}
 use lib.ListN.{length}
 use Rattle.cells.specs.Cells.{part, zeros}
 use Rattle.rules.specs.Numbers.{digitsMost}
+use Rattle.rules.specs.Aes.{scheduleWords}
 use Rattle.rules.specs.State.{State}
 use Rattle.drive.specs.Acting.{state, Ready}
 use Rattle.drive.proofs.RunningLaws.{Mid, mid-none, room-more, fits, mid-more, mid-end, wrote-bytes, wrote-back, ready-next}
@@ -17,7 +18,7 @@ abbrev Inv-loop : tie.InvT-loop
 Inv-loop keys₀ marks₀ text out₀ frame₀ brought₀ words₀ registers₀ at₀ lines₀ bytes₀ keys marks out frame brought words
     registers at lines bytes =
     Mid (state registers₀ keys₀ marks₀) text out₀ (state registers keys marks) at lines bytes out × Ready registers keys marks
-    × (frame ≡ zeros (digitsMost / 2)) × (words ≡ zeros 60)
+    × (frame ≡ zeros (digitsMost / 2)) × (words ≡ zeros scheduleWords)
 
 abbrev μ-loop : tie.MeasureT-loop
 μ-loop keys₀ marks₀ text out₀ frame₀ brought₀ words₀ registers₀ at₀ lines₀ bytes₀ keys marks out frame brought words
