@@ -3,7 +3,8 @@
 //! - `cargo run --release --offline --bin sessions` writes `tests/sessions` anew: those that are kept as files.
 //! - `.. --bin sessions -- FOLDER` writes all others to `FOLDER/in` and `FOLDER/out`: the rest of those with answers
 //!   worked out by hand, which stand beside the lines, and those from seeds, which the model answers.
-//! - `.. --bin sessions -- FOLDER --broken RULE` writes what those from seeds would print with a wrong rule.
+//! - `.. --bin sessions -- --broken RULE...` tells to how many of those from seeds the model gives other answers with
+//!   that rule wrong, and fails if it is none.
 //!
 //! `cargo test` holds the model against the answers by hand, and the files against what is written here.
 
@@ -77,12 +78,9 @@ fn main() -> ExitCode {
     let words: Vec<&str> = words.iter().map(String::as_str).collect();
     let done = match words[..] {
         [] => write_files(&by_hand()),
+        ["--broken", ref rules @ ..] => tell_broken(rules),
         [folder] => write_others(Path::new(folder)),
-        [folder, "--broken", rule] => match Rule::named(rule) {
-            Some(rule) => write_broken(Path::new(folder), rule),
-            None => Err(disk::Error::other(format!("there is no rule {rule}"))),
-        },
-        _ => Err(disk::Error::other("usage: sessions [FOLDER [--broken RULE]]")),
+        _ => Err(disk::Error::other("usage: sessions [FOLDER | --broken RULE...]")),
     };
     match done {
         Ok(()) => ExitCode::SUCCESS,
@@ -161,11 +159,18 @@ fn write_others(folder: &Path) -> disk::Result<()> {
     }
 }
 
-fn write_broken(folder: &Path, rule: Rule) -> disk::Result<()> {
-    fs::create_dir_all(folder.join("out"))?;
-    for seed in seeds::SEEDS {
-        let printed = rule.printed_for(&seeds::session(seed));
-        fs::write(folder.join("out").join(format!("seed-{seed:04}")), printed)?;
+fn tell_broken(names: &[&str]) -> disk::Result<()> {
+    let sessions: Vec<_> = seeds::SEEDS.map(seeds::session).collect();
+    let printed: Vec<_> = sessions.iter().map(|text| printed_for(text)).collect();
+    for name in names {
+        let rule = Rule::named(name)
+            .ok_or_else(|| disk::Error::other(format!("there is no rule {name}")))?;
+        let differs = |(text, right): &(&Vec<u8>, &Vec<u8>)| rule.printed_for(text) != **right;
+        let times = sessions.iter().zip(&printed).filter(differs).count();
+        if times == 0 {
+            return Err(disk::Error::other(format!("a wrong rule ({name}) was not seen")));
+        }
+        println!("{name} in {times}");
     }
     Ok(())
 }
