@@ -24,7 +24,8 @@ use Rattle.rules.specs.Marks.{blockOf, neverWritten}
 use Rattle.rules.specs.Start.{freshRegisters, freshCache, emptiedCache, start}
 use Rattle.marks.specs.Store.{zeroed}
 use Rattle.slots.specs.Cache.{slotAt, clearedAll}
-use Rattle.slots.proofs.CacheLaws.{right-cache, slot-is, cleared-all-zeros}
+use Rattle.rules.proofs.StateLaws.{right-cache}
+use Rattle.slots.proofs.CacheLaws.{slot-is, cleared-all-zeros}
 use Rattle.drive.specs.declared.Answered.{Answered}
 use Rattle.drive.specs.Acting.{state, outcome}
 use Rattle.drive.proofs.ActingLaws.{uid-only}

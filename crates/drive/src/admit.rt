@@ -16,7 +16,7 @@ pub(crate) fn admit(short: bool, registers: Registers, keys: &[u8], marks: &[u8]
     if marks.len() != STORE_SIZE {
         return Admission::Refused(Refusal::WrongStore);
     }
-    if slots::unsound(registers, keys) {
+    if sound::unsound(registers, keys) {
         return Admission::Refused(Refusal::UnsoundState);
     }
     Admission::Open

@@ -37,7 +37,7 @@ use Rattle.frames.proofs.read.Met as frames-read
 use Rattle.slots.proofs.loaded.Met as slots-loaded
 use Rattle.slots.proofs.holds_uid.Met as slots-holds-uid
 use Rattle.slots.proofs.other_key_allocated.Met as slots-other-key-allocated
-use Rattle.slots.proofs.unsound.Met as slots-unsound
+use Rattle.sound.proofs.unsound.Met as sound-unsound
 use Rattle.slots.proofs.store.Met as slots-store
 use Rattle.slots.proofs.clear.Met as slots-clear
 use Rattle.slots.proofs.clear_all.Met as slots-clear-all
@@ -104,7 +104,7 @@ defined = record {
   slots-loaded-ends = slots-loaded.met;
   slots-holds-uid-ends = slots-holds-uid.met;
   slots-other-key-allocated-ends = slots-other-key-allocated.met;
-  slots-unsound-ends = slots-unsound.met;
+  sound-unsound-ends = sound-unsound.met;
   slots-store-ends = slots-store.met;
   slots-clear-ends = slots-clear.met;
   slots-clear-all-ends = slots-clear-all.met;

@@ -39,7 +39,7 @@ use Rattle.promises.specs.Tight.{Tight-discovery-own-fields, Tight-disco
 use Rattle.promises.specs.Tight.{Tight-tuffaleen-c-message, Tight-tuffaleen-c-wrap, Tight-tuffaleen-c-unwrap}
 use Rattle.promises.specs.Tight.{Tight-ttlv-item-at, Tight-ttlv-sound, Tight-ttlv-read, Tight-ttlv-write, Tight-kmip-read, Tight-kmip-write}
 use Rattle.promises.specs.Tight.{Tight-digits-read-line, Tight-digits-number, Tight-digits-write-answer}
-use Rattle.promises.specs.Tight.{Tight-slots-loaded, Tight-slots-holds-uid, Tight-slots-other-key-allocated, Tight-slots-unsound, Tight-slots-store}
+use Rattle.promises.specs.Tight.{Tight-slots-loaded, Tight-slots-holds-uid, Tight-slots-other-key-allocated, Tight-sound-unsound, Tight-slots-store}
 use Rattle.promises.specs.Tight.{Tight-slots-clear, Tight-slots-clear-all, Tight-slots-clear-up-to, Tight-slots-clear-allocated}
 use Rattle.promises.specs.Tight.{Tight-marks-some-differs, Tight-marks-mark, Tight-marks-zero-namespace}
 use Rattle.promises.specs.Tight.{Tight-locks-decide, Tight-locks-shown, Tight-locks-lock-value, Tight-locks-boot-write, Tight-locks-both-locked}
@@ -174,8 +174,8 @@ tight-slots-holds-uid = (λ κs args. tt, λ κs args r r′ e e′ p q. one p q
 pub tight-slots-other-key-allocated : Tight-slots-other-key-allocated
 tight-slots-other-key-allocated = (λ κs args. tt, λ κs args r r′ e e′ p q. one p q)
 
-pub tight-slots-unsound : Tight-slots-unsound
-tight-slots-unsound = (λ κs args. tt, λ κs args r r′ e e′ p q. one p q)
+pub tight-sound-unsound : Tight-sound-unsound
+tight-sound-unsound = (λ κs args. tt, λ κs args r r′ e e′ p q. one p q)
 
 pub tight-slots-store : Tight-slots-store
 tight-slots-store = (λ κs args. tt, λ κs args r r′ e e′ p q. one p q)

@@ -38,7 +38,7 @@ use Rattle.frames.proofs.read.Statement as frames-read
 use Rattle.slots.proofs.loaded.Statement as slots-loaded
 use Rattle.slots.proofs.holds_uid.Statement as slots-holds-uid
 use Rattle.slots.proofs.other_key_allocated.Statement as slots-other-key-allocated
-use Rattle.slots.proofs.unsound.Statement as slots-unsound
+use Rattle.sound.proofs.unsound.Statement as sound-unsound
 use Rattle.slots.proofs.store.Statement as slots-store
 use Rattle.slots.proofs.clear.Statement as slots-clear
 use Rattle.slots.proofs.clear_all.Statement as slots-clear-all
@@ -104,7 +104,7 @@ pub record Defined (M : Type 1) : Type 2 where
   pub slots-loaded-ends : slots-loaded.statement M
   pub slots-holds-uid-ends : slots-holds-uid.statement M
   pub slots-other-key-allocated-ends : slots-other-key-allocated.statement M
-  pub slots-unsound-ends : slots-unsound.statement M
+  pub sound-unsound-ends : sound-unsound.statement M
   pub slots-store-ends : slots-store.statement M
   pub slots-clear-ends : slots-clear.statement M
   pub slots-clear-all-ends : slots-clear-all.statement M

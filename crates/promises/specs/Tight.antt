@@ -66,7 +66,7 @@ use Rattle.frames.proofs.read.Reads as frames-read
 use Rattle.slots.proofs.loaded.Reads as slots-loaded
 use Rattle.slots.proofs.holds_uid.Reads as slots-holds-uid
 use Rattle.slots.proofs.other_key_allocated.Reads as slots-other-key-allocated
-use Rattle.slots.proofs.unsound.Reads as slots-unsound
+use Rattle.sound.proofs.unsound.Reads as sound-unsound
 use Rattle.slots.proofs.store.Reads as slots-store
 use Rattle.slots.proofs.clear.Reads as slots-clear
 use Rattle.slots.proofs.clear_all.Reads as slots-clear-all
@@ -224,8 +224,8 @@ Tight-slots-holds-uid = Tight {Left = Bool} slots-holds-uid.Asked slots-holds-ui
 abbrev pub Tight-slots-other-key-allocated : Type 0
 Tight-slots-other-key-allocated = Tight {Left = Bool} slots-other-key-allocated.Asked slots-other-key-allocated.Learnt (λ κs result exit. result)
 
-abbrev pub Tight-slots-unsound : Type 0
-Tight-slots-unsound = Tight {Left = Bool} slots-unsound.Asked slots-unsound.Learnt (λ κs result exit. result)
+abbrev pub Tight-sound-unsound : Type 0
+Tight-sound-unsound = Tight {Left = Bool} sound-unsound.Asked sound-unsound.Learnt (λ κs result exit. result)
 
 abbrev pub Tight-slots-store : Type 0
 Tight-slots-store = Tight {Left = List ℕ} slots-store.Asked slots-store.Learnt (λ κs result exit. now (exit .0))

@@ -3,28 +3,27 @@
 -- tags finds what the search for a KeyUID in the whole cache does.
 -- Assumes nothing.
 use mathlib.Core.Path.{_≡_, refl, sym, ap, _∙_}
-use mathlib.Core.Bool.{Bool, true, false, not, _&&_, true≢false, and-false}
+use mathlib.Core.Bool.{Bool, true, false, not, _&&_, and-false}
 use mathlib.Core.List.{List}
-use Prim.Native.Nat.{ℕ, _+_, _-_, _/_, _%_, _≤_, _<_}
+use Prim.Native.Nat.{ℕ, _+_, _-_, _%_, _≤_, _<_}
 use native.Mathlib.Omega.{arith}
 use native.Mathlib.Decide.{decLt}
 use mathlib.Core.Logic.{by-cases}
-use lib.ListN.{length, getD}
-use lib.Dec.{leb}
-use borrow.Author.Tests.{le-leb, lt-leb, lt-ltb}
+use lib.ListN.{length}
+use borrow.Author.Tests.{lt-leb, lt-ltb}
 use Rattle.cells.specs.Cells.{cell}
 use Rattle.cells.specs.Predicates.{same, someCell}
 use Rattle.cells.proofs.CellsLaws.{length-cell}
-use Rattle.cells.proofs.PredicatesLaws.{some-same, then-none, false-or-true}
+use Rattle.cells.proofs.PredicatesLaws.{some-same, then-none}
 use Rattle.rules.specs.Numbers.{uidMost, tagsMost, slotWidth, slotPlaces, cacheSize}
 use Rattle.rules.specs.State.{State}
-use Rattle.rules.specs.Slots.{Contents, namespaceAt, tagAt, empty, uidOf, keyOf, otherKeyIn, otherKey}
-use Rattle.rules.specs.Sound.{slotUnsound, unsound}
+use Rattle.rules.specs.Slots.{Contents, empty, keyOf, otherKeyIn, otherKey}
+use Rattle.rules.specs.Sound.{unsound}
 use Rattle.rules.proofs.SlotsLaws.{empty-other}
 use Rattle.rules.proofs.SoundLaws.{sound-cache, counted, sound-at, unallocated-at}
 use Rattle.slots.specs.Cache.{allocated, headBytes, otherKeyBehind, otherKeyAllocated}
-use Rattle.slots.proofs.CacheLaws.{right-cache}
-use Rattle.slots.proofs.ScanLaws.{otherAt}
+use Rattle.rules.proofs.StateLaws.{right-cache}
+use Rattle.slots.proofs.SearchLaws.{otherAt}
 use Rattle.slots.proofs.HeadLaws.{long-head, empty-head, sound-behind}
 
 long-behind : (x : Contents) (c : List ℕ) → uidMost < length (x .uid) → otherKeyBehind (headBytes (x .uid)) (x .key) c ≡ false

@@ -2,7 +2,7 @@
 -- stand in it.
 -- Assumes nothing.
 use mathlib.Core.Path.{_≡_, refl, sym, ap, _∙_}
-use mathlib.Core.Bool.{true, false, not, _&&_, cond}
+use mathlib.Core.Bool.{true, false, _&&_, cond}
 use mathlib.Core.List.{List, [], _∷_, _++_, append-nil}
 use mathlib.Core.Logic.{by-cases}
 use Prim.Native.Nat.{ℕ, _+_, _-_, _*_, _≤_, _<_}
@@ -15,24 +15,18 @@ use lib.Seq.{set-split}
 use borrow.Author.Tests.{eq-eqb, ne-eqb, lt-ltb, le-ltb, le-leb}
 use Rattle.cells.specs.Cells.{part, cell, zeros, put, fill}
 use Rattle.cells.specs.Predicates.{same}
-use Rattle.cells.proofs.CellsLaws.{length-cell, first-cell, part-end, part-cell, part-whole, lent-length-to, copied, push, fill-front}
+use Rattle.cells.proofs.CellsLaws.{length-cell, part-end, part-cell, part-whole, lent-length-to, copied, push, fill-front}
 use Rattle.cells.proofs.PredicatesLaws.{same-split, same-byte}
 use Rattle.rules.specs.declared.Namespace.{Namespace}
 use Rattle.rules.specs.Numbers.{uidMost, keySize, slotWidth, slotPlaces, slotsSize, cacheSize}
 use Rattle.rules.specs.State.{wrongCache, keyTag, noNamespace}
-use Rattle.rules.specs.Slots.{Contents, FitKey, placeOf, padded, slotBytes, emptied, uidLength, loaded, uidOf, keyOf}
-use Rattle.rules.specs.Sound.{afterUid}
-use Rattle.rules.proofs.SlotsLaws.{length-padded}
+use Rattle.rules.specs.Slots.{Contents, FitKey, placeOf, padded, slotBytes, emptied, loaded, uidOf, keyOf}
+use Rattle.rules.proofs.StateLaws.{wrong-cache, right-cache}
+use Rattle.rules.proofs.SlotsLaws.{length-padded, length-at}
 use Rattle.slots.specs.Cache.{slotAt, stored, cleared, clearedAll, tagsUpTo, clearedUpTo, headSize, headOf, headBytes}
 
 -- ------------------------------------------------------------------------
 -- The cache at its own length: what each definition is there
-
-pub wrong-cache : (keys : List ℕ) → (length keys ≡ cacheSize → ⊥) → wrongCache keys ≡ true
-wrong-cache keys wrong = ap not (ne-eqb (length keys) cacheSize wrong)
-
-pub right-cache : (keys : List ℕ) → length keys ≡ cacheSize → wrongCache keys ≡ false
-right-cache keys size = ap not (eq-eqb (length keys) cacheSize size)
 
 module _ (keys : List ℕ) (size : length keys ≡ cacheSize) where
   pub slot-is : (place : ℕ) → place < slotPlaces → slotAt place keys ≡ cell slotWidth place keys
@@ -77,15 +71,12 @@ cleared-all-zeros keys =
 -- A slot's parts
 
 module _ (keys : List ℕ) (place : ℕ) (size : length keys ≡ cacheSize) where
-  pub length-at : uidLength (cell slotWidth place keys) ≡ getD keys (place * slotWidth) 0
-  length-at = first-cell slotWidth place keys (omega arith)
-
   module _ (inside : place < slotPlaces) where
     pub loaded-not : getD keys (place * slotWidth) 0 ≡ 0 → loaded (slotAt place keys) ≡ false
-    loaded-not e = rw (slot-is keys size place inside, length-at, e)
+    loaded-not e = rw (slot-is keys size place inside, length-at keys place, e)
 
     pub loaded-is : (getD keys (place * slotWidth) 0 ≡ 0 → ⊥) → loaded (slotAt place keys) ≡ true
-    loaded-is n = rw (slot-is keys size place inside, length-at, ne-eqb _ 0 n)
+    loaded-is n = rw (slot-is keys size place inside, length-at keys place, ne-eqb _ 0 n)
 
     fits : place * slotWidth + slotWidth ≤ length keys
     fits = omega arith
@@ -93,7 +84,7 @@ module _ (keys : List ℕ) (place : ℕ) (size : length keys ≡ cacheSize) wher
     pub uid-at : (n : ℕ) → getD keys (place * slotWidth) 0 ≡ n → n < slotWidth
         → uidOf (cell slotWidth place keys) ≡ part (place * slotWidth + 1) n keys
     unfolding uidOf
-    uid-at n e h = ap (λ k. part 1 k (cell slotWidth place keys)) (length-at ∙ e) ∙ part-cell slotWidth place 1 n keys fits (omega arith)
+    uid-at n e h = ap (λ k. part 1 k (cell slotWidth place keys)) (length-at keys place ∙ e) ∙ part-cell slotWidth place 1 n keys fits (omega arith)
 
     -- a length byte past the slot: the rest of the slot
     pub uid-all : (n : ℕ) → getD keys (place * slotWidth) 0 ≡ n → slotWidth ≤ n
@@ -101,7 +92,7 @@ module _ (keys : List ℕ) (place : ℕ) (size : length keys ≡ cacheSize) wher
     unfolding uidOf
     uid-all n e h =
         let l = length-cell slotWidth place keys fits in
-        ap (λ k. part 1 k (cell slotWidth place keys)) (length-at ∙ e)
+        ap (λ k. part 1 k (cell slotWidth place keys)) (length-at keys place ∙ e)
         ∙ part-end 1 n (slotWidth - 1) (cell slotWidth place keys) (omega arith) (omega arith)
         ∙ part-cell slotWidth place 1 (slotWidth - 1) keys fits (omega arith)
 
@@ -130,12 +121,6 @@ module _ (keys : List ℕ) (place : ℕ) (size : length keys ≡ cacheSize) wher
         ∙ same-split a 0 1 uidMost keys head (omega (arith, fits)) (omega arith)
         ∙ ap (λ b. b && same (part (a + 1) uidMost keys) (part 1 uidMost head)) (same-byte a 0 keys head (omega (arith, fits)) (omega arith))
         ∙ ap (λ b. eqb (getD keys a 0) (getD head 0 0) && b) rest
-
-    pub after-at : (n : ℕ) → getD keys (place * slotWidth) 0 ≡ n → n ≤ uidMost
-        → afterUid (cell slotWidth place keys) ≡ part (place * slotWidth + (1 + n)) (uidMost - n) keys
-    after-at n e h =
-        ap (λ k. part (1 + k) (uidMost - k) (cell slotWidth place keys)) (length-at ∙ e)
-        ∙ part-cell slotWidth place (1 + n) (uidMost - n) keys fits (omega arith)
 
 -- ------------------------------------------------------------------------
 -- What the stores of `set_head` and of `set_slot` leave

@@ -25,7 +25,7 @@ use Rattle.rules.proofs.StateLaws.{is-namespace}
 use Rattle.rules.proofs.SoundLaws.{sound-cache, sound-counts, above-none, counted, sound-at}
 use Rattle.slots.specs.Cache.{tagsUpTo, clearedUpTo, clearedFirst, clearedAllocated}
 use Rattle.slots.proofs.CacheLaws.{cleared-up-to-is}
-use Rattle.slots.proofs.ScanLaws.{unallocated-marked}
+use Rattle.sound.proofs.ScanLaws.{unallocated-marked}
 
 -- ------------------------------------------------------------------------
 -- Namespace by namespace, in a cache of its length

@@ -2,4 +2,4 @@ pub mod AllocatedLaws
 pub mod CacheLaws
 pub mod ClearLaws
 pub mod HeadLaws
-pub mod ScanLaws
+pub mod SearchLaws

@@ -2,20 +2,17 @@
 // total; a cache of another length than CACHE_SIZE has no slots, and stays.
 ghost use mathlib.Core.Path.{_≡_};
 ghost use mathlib.Core.Bool.{_&&_};
-ghost use mathlib.Core.List.{[]};
 ghost use Rattle.cells.specs.Predicates.{same};
 ghost use Rattle.rules.specs.Slots.{loaded as isLoaded, uidOf};
-ghost use Rattle.rules.specs.Sound.{unsound as isUnsound};
 ghost use Rattle.slots.specs.Cache.{slotAt, otherKeyAllocated, stored, cleared, clearedAll, clearedUpTo, clearedAllocated};
 
 mod bytes;
-mod scan;
+mod search;
 
 use rules::CACHE_SIZE;
 use rules::KEY_SIZE;
 use rules::NAMESPACES;
 use rules::Namespace;
-use rules::Registers;
 use rules::SLOT_PLACES;
 use rules::SLOT_WIDTH;
 use rules::UID_MOST;
@@ -65,21 +62,7 @@ pub fn other_key_allocated(counts: [u8; NAMESPACES], keys: &[u8], uid: &[u8], ke
     }
     let mut head = [0u8; bytes::HEAD_SIZE];
     bytes::set_head(&mut head, uid);
-    scan::other_key_behind(counts, keys, &head, key)
-}
-
-// 07 0E: the paper's soundness scan.
-pub fn unsound(registers: Registers, keys: &[u8]) -> bool
-    ensures { λ r. ⌜ r ≡ isUnsound (record { registers = registers; keys = now (keys .entry); marks = [] }) ⌝ }
-{
-    if keys.len() != CACHE_SIZE {
-        return true;
-    }
-    let counts = registers.counts;
-    if scan::counts_unsound(counts) {
-        return true;
-    }
-    scan::slots_unsound(counts, keys)
+    search::other_key_behind(counts, keys, &head, key)
 }
 
 pub fn store(keys: &mut [u8], place: usize, uid: &[u8], key: &[u8])

@@ -2,7 +2,7 @@
 -- Assumes nothing.
 use borrow.Author.Needs.{needs}
 use native.Mathlib.Omega.{arith}
-use Rattle.slots.proofs.CacheLaws.{wrong-cache}
+use Rattle.rules.proofs.StateLaws.{wrong-cache}
 use Rattle.drive.proofs.KeysLaws.{emptied-is}
 use Rattle.drive.proofs.emptied.Statement.{statement}
 use Rattle.drive.proofs.emptied.Tie as tie

@@ -7,7 +7,7 @@ use mathlib.Core.Bool.{true, false}
 use Rattle.cells.specs.Cells.{zeros}
 use Rattle.rules.specs.State.{wrongCache, wrongStore}
 use Rattle.rules.specs.Start.{freshRegisters, start}
-use Rattle.slots.proofs.CacheLaws.{wrong-cache, right-cache}
+use Rattle.rules.proofs.StateLaws.{wrong-cache, right-cache}
 use Rattle.drive.proofs.KeysLaws.{wrong-store, right-store, started}
 use Rattle.drive.proofs.start.Statement.{statement}
 use Rattle.drive.proofs.start.Tie as tie

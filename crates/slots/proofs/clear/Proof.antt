@@ -7,7 +7,8 @@ use Rattle.rules.specs.Numbers.{slotWidth, slotPlaces}
 use Rattle.rules.specs.Slots.{emptied}
 use Rattle.slots.specs.Cache.{cleared}
 use Rattle.cells.proofs.CellsLaws.{fill-one}
-use Rattle.slots.proofs.CacheLaws.{wrong-cache, right-cache, cleared-is}
+use Rattle.rules.proofs.StateLaws.{wrong-cache, right-cache}
+use Rattle.slots.proofs.CacheLaws.{cleared-is}
 use Rattle.slots.proofs.clear.Statement.{statement}
 use Rattle.slots.proofs.clear.Tie as tie
 

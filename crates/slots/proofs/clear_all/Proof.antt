@@ -3,7 +3,8 @@
 use borrow.Author.Needs.{needs}
 use mathlib.Core.Path.{sym, _∙_}
 use Rattle.slots.specs.Cache.{clearedAll}
-use Rattle.slots.proofs.CacheLaws.{wrong-cache, cleared-all-is}
+use Rattle.rules.proofs.StateLaws.{wrong-cache}
+use Rattle.slots.proofs.CacheLaws.{cleared-all-is}
 use Rattle.slots.proofs.clear_all.Statement.{statement}
 use Rattle.slots.proofs.clear_all.Tie as tie
 

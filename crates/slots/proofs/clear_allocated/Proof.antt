@@ -7,7 +7,7 @@ use lib.ListN.{length}
 use Prim.Native.Nat.{_-_, _≤_}
 use Rattle.rules.specs.Numbers.{namespaces, cacheSize}
 use Rattle.slots.specs.Cache.{clearedFirst}
-use Rattle.slots.proofs.CacheLaws.{wrong-cache}
+use Rattle.rules.proofs.StateLaws.{wrong-cache}
 use Rattle.slots.proofs.ClearLaws.{cleared-next, wrong-stays}
 use Rattle.slots.proofs.clear_allocated.Statement.{statement}
 use Rattle.slots.proofs.clear_allocated.Tie as tie

@@ -12,7 +12,8 @@ use Rattle.rules.specs.Numbers.{namespaces, tagsMost, slotWidth}
 use Rattle.rules.specs.State.{keyTag, noNamespace}
 use Rattle.rules.specs.Slots.{placeOf, emptied}
 use Rattle.slots.specs.Cache.{tagsUpTo, clearedUpTo}
-use Rattle.slots.proofs.CacheLaws.{wrong-cache, right-cache, cleared-up-to-is}
+use Rattle.rules.proofs.StateLaws.{wrong-cache, right-cache}
+use Rattle.slots.proofs.CacheLaws.{cleared-up-to-is}
 use Rattle.slots.proofs.clear_up_to.Statement.{statement}
 use Rattle.slots.proofs.clear_up_to.Tie as tie
 

@@ -2,7 +2,8 @@
 -- Assumes nothing.
 use borrow.Author.Needs.{needs}
 use Rattle.slots.specs.Cache.{slotAt}
-use Rattle.slots.proofs.CacheLaws.{wrong-cache, slot-is, slot-past, loaded-not, loaded-is}
+use Rattle.rules.proofs.StateLaws.{wrong-cache}
+use Rattle.slots.proofs.CacheLaws.{slot-is, slot-past, loaded-not, loaded-is}
 use Rattle.slots.proofs.holds_uid.Statement.{statement}
 use Rattle.slots.proofs.holds_uid.Tie as tie
 

@@ -5,9 +5,9 @@ use mathlib.Core.Path.{sym, ap, _∙_}
 use Rattle.cells.specs.Predicates.{someCell}
 use Rattle.rules.specs.Numbers.{slotWidth, slotPlaces}
 use Rattle.slots.specs.Cache.{otherKeyAllocated}
-use Rattle.slots.proofs.CacheLaws.{wrong-cache}
+use Rattle.rules.proofs.StateLaws.{wrong-cache}
 use Rattle.slots.proofs.AllocatedLaws.{other-key-is, long-none}
-use Rattle.slots.proofs.ScanLaws.{otherAt}
+use Rattle.slots.proofs.SearchLaws.{otherAt}
 use Rattle.slots.proofs.other_key_allocated.Statement.{statement}
 use Rattle.slots.proofs.other_key_allocated.Tie as tie
 

@@ -8,7 +8,8 @@ use Rattle.cells.specs.Cells.{put}
 use Rattle.cells.proofs.CellsLaws.{back-put}
 use Rattle.rules.specs.Numbers.{uidMost, keySize, slotWidth, slotPlaces}
 use Rattle.slots.specs.Cache.{stored}
-use Rattle.slots.proofs.CacheLaws.{wrong-cache, right-cache, stored-short}
+use Rattle.rules.proofs.StateLaws.{wrong-cache, right-cache}
+use Rattle.slots.proofs.CacheLaws.{stored-short}
 use Rattle.slots.proofs.store.Statement.{statement}
 use Rattle.slots.proofs.store.Tie as tie
 
