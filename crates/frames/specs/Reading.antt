@@ -12,16 +12,12 @@ use Rattle.rules.specs.declared.Tag.{Tag}
 use Rattle.rules.specs.Numbers.{uidMost, keySize, wrappedSize}
 use Rattle.rules.specs.Answers.{07·02, 07·17, 07·18}
 use Rattle.rules.specs.Slots.{FitKey, FitWrapped}
-use Rattle.rules.specs.Fields.{byte, bytes}
-use Rattle.rules.specs.State.{namespace, keyTag}
-use Rattle.rules.specs.Frames.{Frame, Reading, contentsAt, loadChecks}
+use Rattle.rules.specs.Frames.{Frame, Reading, contentsAt}
 use Rattle.rules.specs.Frames as frames
 use Rattle.rules.specs.Order.{frameOf, readingChecks}
 use Rattle.digits.specs.Digits.{readInto}
 use Rattle.kmip.specs.declared.MessageRead.{MessageRead}
 use Rattle.kmip.specs.declared.MessageRead.the-variants.{NoRoom, NoLoad, BadKeyUid, Brings}
-use Rattle.frames.specs.declared.LoadRead.{LoadRead}
-use Rattle.frames.specs.declared.LoadRead.the-variants as of-load
 use Rattle.frames.specs.declared.FrameRead.{FrameRead}
 use Rattle.frames.specs.declared.FrameRead.the-variants.{Manage, Release, Load, LoadWrapped, Replace, ClearOne, ClearAll, Io, SetFeatures, GetFeatures}
 use Rattle.frames.specs.declared.FrameRead.the-variants.{BootWrite, Reset, Discovery, Refused}
@@ -67,10 +63,6 @@ meant f (Refused r) = refusal r
 -- a reading's first refusal, or its frame's numbers
 unfoldable pub numbered : Reading → FrameRead
 numbered reading = judged (reading .checks) Refused (numbersOf (reading .frame))
-
--- a load with so many bytes behind its KeyUID: the first refusal of its checks, or its slot and the KeyUID's length
-unfoldable pub loadRead : ℕ → List ℕ → LoadRead
-loadRead size f = judged (loadChecks size f) of-load.Refused (of-load.Named (namespace (byte 1 f)) (keyTag (bytes 2 3 f)) (byte 4 f))
 
 -- a load's KeyUID and key stand from byte 5 on, wherever the line had them (a message has them elsewhere); the other kinds leave the bytes
 abbrev pub placed : Frame → List ℕ → List ℕ

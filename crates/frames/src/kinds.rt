@@ -7,11 +7,10 @@ ghost use Rattle.rules.specs.Fields.{byte, bytes};
 ghost use Rattle.rules.specs.State.{namespace, keyTag};
 ghost use Rattle.rules.specs.Frames.{manage as Manage, release as Release, clearOne as ClearOne, clearAll as ClearAll, io as Io, setFeatures as SetFeatures};
 ghost use Rattle.rules.specs.Frames.{getFeatures as GetFeatures, bootWrite as BootWrite, reset as Reset, discovery as Discovery};
-ghost use Rattle.rules.specs.Numbers.{uidMost, keySize, wrappedSize};
+ghost use Rattle.rules.specs.Numbers.{uidMost, keySize};
 ghost use Rattle.rules.specs.Frames.{exactly, readLoad, readWrapped, readReplace, readMessage, readFrame, commandOf};
-ghost use Rattle.frames.specs.Reading.{loadRead, numbered, readAs, asLoad, Short};
+ghost use Rattle.frames.specs.Reading.{numbered, readAs, asLoad, Short};
 use crate::FrameRead;
-use crate::LoadRead;
 use crate::fields;
 use crate::fields::dword;
 use crate::fields::word;
@@ -48,40 +47,36 @@ fn release(f: &[u8]) -> FrameRead
     FrameRead::Release(namespace_of(f[1]))
 }
 
-// A load with so many bytes behind its KeyUID.
-fn named(f: &[u8], size: usize) -> LoadRead
-    requires { ⌜ size ≤ wrappedSize ⌝ }
-    ensures { λ r. ⌜ r ≡ loadRead size (now (f .entry)) ⌝ }
-{
-    if f.len() < 5 {
-        return LoadRead::Refused(Refusal::WrongLength);
-    }
-    let l = f[4] as usize;
-    if l == 0 || l > UID_MOST {
-        return LoadRead::Refused(Refusal::BadKeyUidLength);
-    }
-    if f.len() != 5 + l + size {
-        return LoadRead::Refused(Refusal::WrongLength);
-    }
-    LoadRead::Named(namespace_of(f[1]), Tag(word(f, 2)), l)
-}
-
 fn load(f: &[u8]) -> FrameRead
     ensures { λ r. ⌜ r ≡ numbered (readLoad (now (f .entry))) ⌝ }
 {
-    match named(f, KEY_SIZE) {
-        LoadRead::Refused(r) => FrameRead::Refused(r),
-        LoadRead::Named(ns, tag, l) => FrameRead::Load(ns, tag, l),
+    if f.len() < 5 {
+        return FrameRead::Refused(Refusal::WrongLength);
     }
+    let l = f[4] as usize;
+    if l == 0 || l > UID_MOST {
+        return FrameRead::Refused(Refusal::BadKeyUidLength);
+    }
+    if f.len() != 5 + l + KEY_SIZE {
+        return FrameRead::Refused(Refusal::WrongLength);
+    }
+    FrameRead::Load(namespace_of(f[1]), Tag(word(f, 2)), l)
 }
 
 fn load_wrapped(f: &[u8]) -> FrameRead
     ensures { λ r. ⌜ r ≡ numbered (readWrapped (now (f .entry))) ⌝ }
 {
-    match named(f, WRAPPED_SIZE) {
-        LoadRead::Refused(r) => FrameRead::Refused(r),
-        LoadRead::Named(ns, tag, l) => FrameRead::LoadWrapped(ns, tag, l),
+    if f.len() < 5 {
+        return FrameRead::Refused(Refusal::WrongLength);
     }
+    let l = f[4] as usize;
+    if l == 0 || l > UID_MOST {
+        return FrameRead::Refused(Refusal::BadKeyUidLength);
+    }
+    if f.len() != 5 + l + WRAPPED_SIZE {
+        return FrameRead::Refused(Refusal::WrongLength);
+    }
+    FrameRead::LoadWrapped(namespace_of(f[1]), Tag(word(f, 2)), l)
 }
 
 fn replace(f: &[u8]) -> FrameRead

@@ -41,12 +41,6 @@ pub enum FrameRead {
     Refused(Refusal),
 }
 
-// What a load names, clear or wrapped: its slot, and the length of its KeyUID.
-pub(crate) enum LoadRead {
-    Named(Namespace, Tag, usize),
-    Refused(Refusal),
-}
-
 // 07 01 first, then by the kind.
 fn by_line(line: &[u8], frame: &mut [u8; FRAME_MOST], brought: &mut [u8; BROUGHT_MOST]) -> FrameRead
     ensures { λ r. ⌜ record { read = r; frame = now (frame .exit) } ≡ readFrom (now (line .entry)) (now (frame .entry)) ⌝ }
