@@ -110,7 +110,8 @@ fn unmix_by(table: &[u32; 256], sub: &[u8; 256], w: &mut [u32; SCHEDULE])
 
 // Both with the right tables.
 pub fn expand(key: &[u8], w: &mut [u32; SCHEDULE])
-    ensures { λ _. ⌜ now (w .exit) ≡ cond (eqb (length (now (key .entry))) cipherKeySize) (expandedBy sbox (wordsOf (now (key .entry)) 8) 52) (now (w .entry)) ⌝ }
+    ensures { λ _. ⌜ now (w .exit) ≡ cond (eqb (length (now (key .entry))) cipherKeySize)
+        (expandedBy sbox (wordsOf (now (key .entry)) 8) 52) (now (w .entry)) ⌝ }
 {
     let sub = sub_table();
     expand_by(&sub, key, w);

@@ -61,7 +61,8 @@ unallocated-marked c = go (empty c) refl
     go false e = sym (unallocated-is c e) ∙ ap not (sym (loaded-marked c e))
 
 -- the bytes after a KeyUID, where they stand in the cache
-pub after-at : (keys : List ℕ) (place : ℕ) → length keys ≡ cacheSize → place < slotPlaces → (n : ℕ) → getD keys (place * slotWidth) 0 ≡ n → n ≤ uidMost
+pub after-at : (keys : List ℕ) (place : ℕ) → length keys ≡ cacheSize → place < slotPlaces
+    → (n : ℕ) → getD keys (place * slotWidth) 0 ≡ n → n ≤ uidMost
     → afterUid (cell slotWidth place keys) ≡ part (place * slotWidth + (1 + n)) (uidMost - n) keys
 after-at keys place size inside n e h =
     ap (λ k. part (1 + k) (uidMost - k) (cell slotWidth place keys)) (length-at keys place ∙ e)
