@@ -16,14 +16,16 @@ use Rattle.rules.specs.declared.Tag.{Tag}
 use Rattle.rules.specs.declared.Registers.{Registers}
 use Rattle.rules.specs.declared.Refusal.{Refusal}
 use Rattle.rules.specs.Numbers.{slotWidth, slotPlaces, cacheSize, uidMost, keySize, digitsMost}
+use Rattle.rules.specs.View.{viewOf, otherKey}
 use Rattle.rules.specs.Checks.{_when_, AllPass, Verdict, passed, refused, firstRefusal, settle, judged}
 use Rattle.rules.specs.Answers.{07·09, 07·0A, 07·0B, 07·0C}
 use Rattle.rules.specs.State.{State, Outcome, refuse, obey}
-use Rattle.rules.specs.Slots.{Contents, placeOf, empty, loaded, uidOf, otherKey}
+use Rattle.rules.specs.Slots.{slot, Contents, placeOf, empty, loaded, uidOf}
 use Rattle.rules.specs.Sound.{unsound}
 use Rattle.rules.specs.Effects.{storeKey, emptySlot}
 use Rattle.rules.specs.Order.{frameRule, frameOf, readingChecks, lineRule, slotChecks, load, replace, clearOne, step}
 use Rattle.rules.proofs.ChecksLaws.{then-pass, judged-append, judged-map}
+use Rattle.rules.proofs.ViewLaws.{is-empty, uid-held}
 use Rattle.rules.proofs.StateLaws.{is-namespace, done}
 use Rattle.rules.proofs.SlotsLaws.{place-small}
 use Rattle.rules.proofs.SoundLaws.{sound-cache}
@@ -47,7 +49,7 @@ pub line-acts : (s : State) (line : List ℕ) → acted s (judged (readingChecks
 unfolding lineRule
 line-acts s line =
     judged-map (readingChecks line) (acted s) refusal (frame (frameOf line))
-    ∙ sym (judged-append (readingChecks line) (frameRule s (frameOf line) .checks) (refuse s) (done (frameRule s (frameOf line))))
+    ∙ sym (judged-append (readingChecks line) (frameRule (viewOf s) (frameOf line) .checks) (refuse s) (done s (frameRule (viewOf s) (frameOf line))))
 
 -- ------------------------------------------------------------------------
 -- The place, or the refusal
@@ -66,68 +68,70 @@ module _ (d : Registers) (keys marks : List ℕ) (ns : Namespace) (tag : Tag) wh
 
   -- the shared checks' refusal stands
   pub refused-by : (r : Refusal) (o : Outcome) → found.Refused r ≡ located (state d [] []) ns tag
-      → judged (slotChecks s ns tag) (refuse s) o ≡ refuse s r
+      → judged (slotChecks (viewOf s) ns tag) (refuse s) o ≡ refuse s r
   unfolding located
-  refused-by r o e = ap (λ v. settle v (refuse s) o) (verdict-of (firstRefusal (slotChecks s ns tag)) (placeOf ns tag) r e)
+  refused-by r o e = ap (λ v. settle v (refuse s) o) (verdict-of (firstRefusal (slotChecks (viewOf s) ns tag)) (placeOf ns tag) r e)
 
   -- or they pass, and the place is the slot's
   pub found-by : (q : ℕ) (f : ℕ → Outcome) → found.Place q ≡ located (state d [] []) ns tag
-      → judged (slotChecks s ns tag) (refuse s) (f (placeOf ns tag)) ≡ f q
+      → judged (slotChecks (viewOf s) ns tag) (refuse s) (f (placeOf ns tag)) ≡ f q
   unfolding located
   found-by q f e =
-      let p = place-of (firstRefusal (slotChecks s ns tag)) (placeOf ns tag) q e in
+      let p = place-of (firstRefusal (slotChecks (viewOf s) ns tag)) (placeOf ns tag) q e in
       ap (λ v. settle v (refuse s) (f (placeOf ns tag))) (p .0) ∙ ap f (sym (p .1))
 
-  pub found-passes : (q : ℕ) → found.Place q ≡ located (state d [] []) ns tag → AllPass (slotChecks (state d [] []) ns tag)
+  pub found-passes : (q : ℕ) → found.Place q ≡ located (state d [] []) ns tag → AllPass (slotChecks (viewOf (state d [] [])) ns tag)
   unfolding located
-  found-passes q e = then-pass (slotChecks s ns tag) (place-of (firstRefusal (slotChecks s ns tag)) (placeOf ns tag) q e .0)
+  found-passes q e = then-pass (slotChecks (viewOf s) ns tag) (place-of (firstRefusal (slotChecks (viewOf s) ns tag)) (placeOf ns tag) q e .0)
 
   pub found-small : (q : ℕ) → found.Place q ≡ located (state d [] []) ns tag → unsound (state d keys []) ≡ false → q < slotPlaces
   unfolding located
   found-small q e sound =
-      let p = place-of (firstRefusal (slotChecks s ns tag)) (placeOf ns tag) q e in
-      let pass = then-pass (slotChecks s ns tag) (p .0) in
+      let p = place-of (firstRefusal (slotChecks (viewOf s) ns tag)) (placeOf ns tag) q e in
+      let pass = then-pass (slotChecks (viewOf s) ns tag) (p .0) in
       rw (p .1) (place-small ns tag (named-slot (state d keys []) sound ns tag (is-namespace ns (pass .0)) (pass .1 .1 .0)))
 
   -- load, replace and clear one: the refusal, or what is done at the place
   module _ (x : Contents) where
-    load-by : obey s (load s ns tag x) ≡ judged (slotChecks s ns tag) (refuse s) (loadAt s (placeOf ns tag) x)
+    load-by : obey s (load (viewOf s) ns tag x) ≡ judged (slotChecks (viewOf s) ns tag) (refuse s) (loadAt s (placeOf ns tag) x)
     unfolding load putAt loadAt storeKey
     load-by =
-        judged-append (slotChecks s ns tag) _ (refuse s) _
-        ∙ ap (judged (slotChecks s ns tag) (refuse s))
-        (judged-append (07·09 when loaded (cell slotWidth (placeOf ns tag) keys) ∷ []) (07·0C when otherKey keys x ∷ []) (refuse s) _)
+        rw (is-empty (slot s ns tag))
+        (judged-append (slotChecks (viewOf s) ns tag) _ (refuse s) _
+        ∙ ap (judged (slotChecks (viewOf s) ns tag) (refuse s))
+        (judged-append (07·09 when loaded (cell slotWidth (placeOf ns tag) keys) ∷ []) (07·0C when otherKey (viewOf s .slots) x ∷ []) (refuse s) _))
 
-    pub load-refused : (r : Refusal) → found.Refused r ≡ located (state d [] []) ns tag → refuse s r ≡ obey s (load s ns tag x)
+    pub load-refused : (r : Refusal) → found.Refused r ≡ located (state d [] []) ns tag → refuse s r ≡ obey s (load (viewOf s) ns tag x)
     load-refused r e = sym (load-by ∙ refused-by r _ e)
 
-    pub load-found : (q : ℕ) → found.Place q ≡ located (state d [] []) ns tag → loadAt s q x ≡ obey s (load s ns tag x)
+    pub load-found : (q : ℕ) → found.Place q ≡ located (state d [] []) ns tag → loadAt s q x ≡ obey s (load (viewOf s) ns tag x)
     load-found q e = sym (load-by ∙ found-by q (λ p. loadAt s p x) e)
 
     module _ (old : List ℕ) where
-      replace-by : obey s (replace s ns tag old x) ≡ judged (slotChecks s ns tag) (refuse s) (replaceAt s (placeOf ns tag) old x)
+      replace-by : obey s (replace (viewOf s) ns tag old x) ≡ judged (slotChecks (viewOf s) ns tag) (refuse s) (replaceAt s (placeOf ns tag) old x)
       unfolding replace putAt replaceAt storeKey
       replace-by =
-          judged-append (slotChecks s ns tag) _ (refuse s) _
-          ∙ ap (judged (slotChecks s ns tag) (refuse s))
+          rw (is-empty (slot s ns tag), uid-held (slot s ns tag))
+          (judged-append (slotChecks (viewOf s) ns tag) _ (refuse s) _
+          ∙ ap (judged (slotChecks (viewOf s) ns tag) (refuse s))
           (judged-append
           (07·0A when empty (cell slotWidth (placeOf ns tag) keys) ∷ 07·0B when not (same (uidOf (cell slotWidth (placeOf ns tag) keys)) old) ∷ [])
-          (07·0C when otherKey keys x ∷ []) (refuse s) _)
+          (07·0C when otherKey (viewOf s .slots) x ∷ []) (refuse s) _))
 
-      pub replace-refused : (r : Refusal) → found.Refused r ≡ located (state d [] []) ns tag → refuse s r ≡ obey s (replace s ns tag old x)
+      pub replace-refused : (r : Refusal) → found.Refused r ≡ located (state d [] []) ns tag → refuse s r ≡ obey s (replace (viewOf s) ns tag old x)
       replace-refused r e = sym (replace-by ∙ refused-by r _ e)
 
-      pub replace-found : (q : ℕ) → found.Place q ≡ located (state d [] []) ns tag → replaceAt s q old x ≡ obey s (replace s ns tag old x)
+      pub replace-found : (q : ℕ) → found.Place q ≡ located (state d [] []) ns tag → replaceAt s q old x ≡ obey s (replace (viewOf s) ns tag old x)
       replace-found q e = sym (replace-by ∙ found-by q (λ p. replaceAt s p old x) e)
 
-  clear-by : obey s (clearOne s ns tag) ≡ judged (slotChecks s ns tag) (refuse s) (clearAt s (placeOf ns tag))
+  clear-by : obey s (clearOne (viewOf s) ns tag) ≡ judged (slotChecks (viewOf s) ns tag) (refuse s) (clearAt s (placeOf ns tag))
   unfolding clearOne clearAt emptySlot
-  clear-by = judged-append (slotChecks s ns tag) _ (refuse s) _
+  clear-by = rw (is-empty (slot s ns tag)) (judged-append (slotChecks (viewOf s) ns tag) _ (refuse s) _)
 
-  pub clear-refused : (r : Refusal) → found.Refused r ≡ located (state d [] []) ns tag → refuse s r ≡ obey s (clearOne s ns tag)
+  pub clear-refused : (r : Refusal) → found.Refused r ≡ located (state d [] []) ns tag → refuse s r ≡ obey s (clearOne (viewOf s) ns tag)
   clear-refused r e = sym (clear-by ∙ refused-by r _ e)
 
-  pub clear-found : (q : ℕ) → found.Place q ≡ located (state d [] []) ns tag → clearAt s q ≡ obey s (clearOne s ns tag)
+  pub clear-found : (q : ℕ) → found.Place q ≡ located (state d [] []) ns tag → clearAt s q ≡ obey s (clearOne (viewOf s) ns tag)
   clear-found q e = sym (clear-by ∙ found-by q (λ p. clearAt s p) e)
 
 -- of a loaded slot, whether it holds a KeyUID is whether the KeyUID is the same

@@ -21,15 +21,17 @@ use Rattle.rules.specs.declared.Registers.{Registers}
 use Rattle.rules.specs.declared.Refusal.{Refusal}
 use Rattle.rules.specs.declared.Answer.the-variants.{Done}
 use Rattle.rules.specs.Numbers.{blocksEach, uidMost, slotWidth, slotPlaces, markWidth, markPlaces, storeSize}
+use Rattle.rules.specs.View.{viewOf, managed, tagAbove}
 use Rattle.rules.specs.Checks.{Check, _when_, Verdict, passed, refused, firstRefusal, settle, judged, onlyIf, AllPass}
 use Rattle.rules.specs.Answers.{00·01, 00·02, 00·0B, 00·25, 00·28, 00·80}
-use Rattle.rules.specs.State.{State, Outcome, refuse, obey, noNamespace, count, managed, tagAbove, IsNamespace}
+use Rattle.rules.specs.State.{State, Outcome, refuse, obey, noNamespace, count, IsNamespace}
 use Rattle.rules.specs.Slots.{placeOf, slot, padded, empty, uidOf, held, IsSlot}
 use Rattle.rules.specs.Marks.{blockOf, keptIdentity, identityOf}
 use Rattle.rules.specs.Sound.{slotUnsound, unsound}
 use Rattle.rules.specs.Effects.{markCovered, onlyWhen}
 use Rattle.rules.specs.Order.{command, isWrite, isReading, commandChecks, keyChecks, markCheck, wrongKey}
 use Rattle.rules.proofs.ChecksLaws.{judged-append, judged-cases}
+use Rattle.rules.proofs.ViewLaws.{is-empty, wrong-key}
 use Rattle.rules.proofs.StateLaws.{is-namespace}
 use Rattle.rules.proofs.SlotsLaws.{place-small}
 use Rattle.rules.proofs.SoundLaws.{sound-slot}
@@ -101,7 +103,8 @@ settle-map g (refused a) f o = refl
 abbrev pub leads : State → Command → Reach → Outcome
 leads s c (Refused r) = refuse s r
 leads s c Unmanaged = record { answer = Done; state = s }
-leads s c (Place place) = judged (onlyIf (isReading c) (markCheck s c)) (refuse s) (record { answer = Done; state = onlyWhen (isWrite c) (markCovered s c) s })
+leads s c (Place place) =
+    judged (onlyIf (isReading c) (markCheck (viewOf s) c)) (refuse s) (record { answer = Done; state = onlyWhen (isWrite c) (markCovered s c) s })
 
 module _ (s : State) (c : Command) where
   abbrev rangeChecks : List (Check Refusal)
@@ -113,7 +116,7 @@ module _ (s : State) (c : Command) where
   -- the outcome after these, and where it leads, by whether the namespace is managed
   abbrev later : Bool → Outcome
   later m =
-      judged (onlyIf m (keyChecks s c ++ onlyIf (isReading c) (markCheck s c))) (refuse s)
+      judged (onlyIf m (keyChecks (viewOf s) c ++ onlyIf (isReading c) (markCheck (viewOf s) c))) (refuse s)
       (record { answer = Done; state = onlyWhen (m && isWrite c) (markCovered s c) s })
 
   abbrev goes : Bool → Reach
@@ -122,24 +125,25 @@ module _ (s : State) (c : Command) where
   keyed-leads : (m : Bool) → later m ≡ leads s c (goes m)
   unfolding keyed
   keyed-leads true =
-      judged-append (keyChecks s c) (onlyIf (isReading c) (markCheck s c)) (refuse s) (record {
+      judged-append (keyChecks (viewOf s) c) (onlyIf (isReading c) (markCheck (viewOf s) c)) (refuse s) (record {
         answer =
             Done;
         state = onlyWhen (isWrite c) (markCovered s c) s;
       })
-      ∙ sym (settle-map (leads s c) (firstRefusal (keyChecks s c)) Refused (Place (placeOf (c .ns) (c .tag))))
+      ∙ sym (settle-map (leads s c) (firstRefusal (keyChecks (viewOf s) c)) Refused (Place (placeOf (c .ns) (c .tag))))
   keyed-leads false = refl
 
-  opened-leads : isWrite c || isReading c ≡ true → obey s (command s c) ≡ leads s c (reached s c)
+  opened-leads : isWrite c || isReading c ≡ true → obey s (command (viewOf s) c) ≡ leads s c (reached s c)
   unfolding command reached
   opened-leads e =
-      judged-append (commandChecks c) (onlyIf (managed s (c .ns)) (keyChecks s c ++ onlyIf (isReading c) (markCheck s c))) (refuse s) _
-      ∙ ap (λ b. judged (00·01 when not b ∷ rangeChecks) (refuse s) (later (managed s (c .ns)))) e
-      ∙ ap (judged rangeChecks (refuse s)) (keyed-leads (managed s (c .ns)))
-      ∙ sym (settle-map (leads s c) (firstRefusal rangeChecks) Refused (goes (managed s (c .ns))))
+      judged-append (commandChecks c)
+      (onlyIf (managed (viewOf s) (c .ns)) (keyChecks (viewOf s) c ++ onlyIf (isReading c) (markCheck (viewOf s) c))) (refuse s) _
+      ∙ ap (λ b. judged (00·01 when not b ∷ rangeChecks) (refuse s) (later (managed (viewOf s) (c .ns)))) e
+      ∙ ap (judged rangeChecks (refuse s)) (keyed-leads (managed (viewOf s) (c .ns)))
+      ∙ sym (settle-map (leads s c) (firstRefusal rangeChecks) Refused (goes (managed (viewOf s) (c .ns))))
 
   -- and one with another opcode
-  pub unknown-leads : isWrite c || isReading c ≡ false → obey s (command s c) ≡ refuse s 00·01
+  pub unknown-leads : isWrite c || isReading c ≡ false → obey s (command (viewOf s) c) ≡ refuse s 00·01
   unfolding command
   unknown-leads e = rw e
 
@@ -164,7 +168,7 @@ module _ (s : State) (c : Command) where
     abbrev above : Bool
     above = leb n (c .tag .0)
 
-    above-is : (b : Bool) → above ≡ b → tagAbove s (c .ns) (c .tag) ≡ b
+    above-is : (b : Bool) → above ≡ b → tagAbove (viewOf s) (c .ns) (c .tag) ≡ b
     above-is b e = ap (λ k. leb k (c .tag .0)) (sym is) ∙ e
 
     pub tag-refused : (r : Refusal) → found.Refused r ≡ placedBy n (c .ns) (c .tag) → Refused r ≡ keyed s c
@@ -185,7 +189,7 @@ module _ (s : State) (c : Command) where
     unfolding keyed placedBy
     tag-found q e =
         let p = found-place above (placeOf (c .ns) (c .tag)) q e in
-        rw (eq-eqb (c .cetype) 1 one, above-is false (p .0), p .1)
+        rw (eq-eqb (c .cetype) 1 one, above-is false (p .0), p .1, is-empty (slot s (c .ns) (c .tag)))
 
 -- ------------------------------------------------------------------------
 -- A command that reaches a slot
@@ -207,26 +211,26 @@ pub record Placed (s : State) (c : Command) (place : ℕ) : Type 0 where
   pub at : placeOf (c .ns) (c .tag) ≡ place
   pub namespace : IsNamespace (c .ns)
   pub range : c .first + c .more + 1 ≤ blocksEach
-  pub tag : tagAbove s (c .ns) (c .tag) ≡ false
+  pub tag : tagAbove (viewOf s) (c .ns) (c .tag) ≡ false
   pub full : empty (slot s (c .ns) (c .tag)) ≡ false
 
 module _ (s : State) (c : Command) (place : ℕ) where
-  keys-passed : (m : Bool) → goes s c m ≡ Place place → AllPass (keyChecks s c) × (placeOf (c .ns) (c .tag) ≡ place)
+  keys-passed : (m : Bool) → goes s c m ≡ Place place → AllPass (keyChecks (viewOf s) c) × (placeOf (c .ns) (c .tag) ≡ place)
   unfolding keyed
-  keys-passed true e = let p = passed-all (keyChecks s c) (Place (placeOf (c .ns) (c .tag))) place e in (p .0, cc)
+  keys-passed true e = let p = passed-all (keyChecks (viewOf s) c) (Place (placeOf (c .ns) (c .tag))) place e in (p .0, cc)
   keys-passed false e = absurd (never-unmanaged place e)
 
   placed : Place place ≡ reached s c → Placed s c place
   unfolding reached
   placed e =
-      let p = passed-all (rangeChecks s c) (goes s c (managed s (c .ns))) place (sym e) in
-      let k = keys-passed (managed s (c .ns)) (p .1) in
+      let p = passed-all (rangeChecks s c) (goes s c (managed (viewOf s) (c .ns))) place (sym e) in
+      let k = keys-passed (managed (viewOf s) (c .ns)) (p .1) in
       record {
         at = k .1;
         namespace = is-namespace (c .ns) (p .0 .0);
         range = ltb-false blocksEach _ (p .0 .1 .0);
         tag = k .0 .1 .0;
-        full = k .0 .1 .1 .0;
+        full = sym (is-empty (slot s (c .ns) (c .tag))) ∙ k .0 .1 .1 .0;
       }
 
 -- `reach` does not look at the marks
@@ -249,7 +253,7 @@ module _ (registers : Registers) (keys marks : List ℕ) (c : Command) where
   s = state registers keys marks
 
   abbrev outcome : Outcome
-  outcome = obey s (command s c)
+  outcome = obey s (command (viewOf s) c)
 
   known-is : (writes : Bool) → Known c writes → isWrite c || isReading c ≡ true
   known-is true e = rw e
@@ -291,9 +295,9 @@ module _ (registers : Registers) (keys marks : List ℕ) (c : Command) where
           let full = ap length (sym identity-is) ∙ length-held-identity (held (slot s (c .ns) (c .tag))) in
           rw (in-store, eq-eqb (length (part (place * slotWidth) markWidth keys)) markWidth full, identity-is)
 
-      wrong-is : someDiffers (blockOf (c .ns) (c .first)) (c .more + 1) (part (place * slotWidth) markWidth keys) marks ≡ wrongKey s c
-      unfolding someDiffers wrongKey
-      wrong-is = rw (in-store, identity-is)
+      wrong-is : someDiffers (blockOf (c .ns) (c .first)) (c .more + 1) (part (place * slotWidth) markWidth keys) marks ≡ wrongKey (viewOf s) c
+      unfolding someDiffers
+      wrong-is = rw (wrong-key s c, in-store, identity-is)
 
       -- a write marks the blocks
       pub written : isWrite c ≡ true → record {

@@ -18,7 +18,8 @@ use Rattle.rules.specs.declared.BootLocks.{BootLocks}
 use Rattle.rules.specs.declared.Answer.the-variants.{Done}
 use Rattle.rules.specs.Locks.{bothLocked}
 use Rattle.rules.specs.Numbers.{namespaces, blocksEach, slotWidth, slotPlaces, slotsSize, kekSize, cacheSize, markWidth, storeSize}
-use Rattle.rules.specs.State.{wrongCache, wrongStore, noNamespace, count, managed}
+use Rattle.rules.specs.View.{viewOf, managed}
+use Rattle.rules.specs.State.{wrongCache, wrongStore, noNamespace, count}
 use Rattle.rules.specs.Slots.{empty, loaded, uidOf}
 use Rattle.rules.specs.Marks.{blockOf, neverWritten}
 use Rattle.rules.specs.Start.{freshRegisters, freshCache, emptiedCache, start}
@@ -32,10 +33,10 @@ use Rattle.drive.proofs.ActingLaws.{uid-only}
 
 -- a namespace is managed by its count
 module _ (d : Registers) (ns : Namespace) (n : ℕ) (is : n ≡ count (state d [] []) ns) where
-  pub managed-by : (n ≡ 0 → ⊥) → managed (state d [] []) ns ≡ true
+  pub managed-by : (n ≡ 0 → ⊥) → managed (viewOf (state d [] [])) ns ≡ true
   managed-by some = ap not (ne-eqb (count (state d [] []) ns) 0 (λ z. some (is ∙ z)))
 
-  pub unmanaged-by : n ≡ 0 → managed (state d [] []) ns ≡ false
+  pub unmanaged-by : n ≡ 0 → managed (viewOf (state d [] [])) ns ≡ false
   unmanaged-by none = ap not (eq-eqb (count (state d [] []) ns) 0 (sym is ∙ none))
 
 -- a slot of a cache of the right length, by what the cache's own tests answer

@@ -16,6 +16,7 @@ use Rattle.rules.specs.declared.Tag.{Tag}
 use Rattle.rules.specs.declared.Registers.{Registers}
 use Rattle.rules.specs.declared.Refusal.{Refusal}
 use Rattle.rules.specs.Numbers.{uidMost, keySize, wrappedSize, slotsSize}
+use Rattle.rules.specs.View.{viewOf}
 use Rattle.rules.specs.Checks.{AllPass}
 use Rattle.rules.specs.Answers.{07·10}
 use Rattle.rules.specs.State.{State, refuse, obey, keyEncryptionKey}
@@ -64,20 +65,21 @@ module _ (d : Registers) (keys marks : List ℕ) (ns : Namespace) (tag : Tag) (x
   abbrev kek : List ℕ
   kek = drop slotsSize keys
 
-  by-rule : obey s (loadWrapped s ns tag x) ≡ obey s (wrappedRule s ns tag (withUid (x .uid) (unwrap kek (x .key))))
+  by-rule : obey s (loadWrapped (viewOf s) ns tag x) ≡ obey s (wrappedRule s ns tag (withUid (x .uid) (unwrap kek (x .key))))
   unfolding frameRule keyEncryptionKey
   by-rule = ap (obey s) (wrapped-is s ns tag x)
 
-  pub wrapped-refused : (r : Refusal) → found.Refused r ≡ located (state d [] []) ns tag → refuse s r ≡ obey s (loadWrapped s ns tag x)
+  pub wrapped-refused : (r : Refusal) → found.Refused r ≡ located (state d [] []) ns tag → refuse s r ≡ obey s (loadWrapped (viewOf s) ns tag x)
   wrapped-refused r e = sym (by-rule ∙ wrapped-first s ns tag (withUid (x .uid) (unwrap kek (x .key))) ∙ refused-by d keys marks ns tag r _ e)
 
-  pub wrapped-shut : AllPass (slotChecks (state d [] []) ns tag) → unwrap kek (x .key) ≡ none → refuse s 07·10 ≡ obey s (loadWrapped s ns tag x)
+  pub wrapped-shut : AllPass (slotChecks (viewOf (state d [] [])) ns tag) → unwrap kek (x .key) ≡ none
+      → refuse s 07·10 ≡ obey s (loadWrapped (viewOf s) ns tag x)
   wrapped-shut p e =
       sym (by-rule ∙ ap (λ o. obey s (wrappedRule s ns tag (withUid (x .uid) o))) e ∙ wrapped-first s ns tag none
-      ∙ judged-pass (slotChecks s ns tag) (refuse s) (refuse s 07·10) p)
+      ∙ judged-pass (slotChecks (viewOf s) ns tag) (refuse s) (refuse s 07·10) p)
 
   pub wrapped-open : (key : List ℕ) → unwrap kek (x .key) ≡ some key
-      → obey s (load s ns tag (record { uid = x .uid; key = key })) ≡ obey s (loadWrapped s ns tag x)
+      → obey s (load (viewOf s) ns tag (record { uid = x .uid; key = key })) ≡ obey s (loadWrapped (viewOf s) ns tag x)
   wrapped-open key e =
       sym (by-rule ∙ ap (λ o. obey s (wrappedRule s ns tag (withUid (x .uid) o))) e ∙ loads-clear s ns tag (record { uid = x .uid; key = key }))
 

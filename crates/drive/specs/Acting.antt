@@ -13,10 +13,11 @@ use Rattle.rules.specs.declared.Command.{Command}
 use Rattle.rules.specs.declared.Registers.{Registers}
 use Rattle.rules.specs.declared.Answer.the-variants.{Done}
 use Rattle.rules.specs.Numbers.{slotWidth, uidMost, keySize}
+use Rattle.rules.specs.View.{viewOf, managed, otherKey}
 use Rattle.rules.specs.Checks.{_when_, judged}
 use Rattle.rules.specs.Answers.{00·0B, 00·25, 00·80, 07·09, 07·0A, 07·0B, 07·0C}
-use Rattle.rules.specs.State.{State, Sized, Outcome, refuse, obey, noNamespace, managed}
-use Rattle.rules.specs.Slots.{Contents, placeOf, slotBytes, emptied, empty, loaded, uidOf, otherKey}
+use Rattle.rules.specs.State.{State, Sized, Outcome, refuse, obey, noNamespace}
+use Rattle.rules.specs.Slots.{Contents, placeOf, slotBytes, emptied, empty, loaded, uidOf}
 use Rattle.rules.specs.Sound.{unsound}
 use Rattle.rules.specs.Effects.{withKeys}
 use Rattle.rules.specs.Order.{frameRule, slotChecks, outOfRange, keyChecks, isWrite, isReading}
@@ -55,7 +56,7 @@ Sound registers keys = unsound (state registers keys []) ≡ false
 -- A frame that was read, or the refusal of its line
 
 abbrev pub acted : State → Meant → Outcome
-acted s (frame f) = obey s (frameRule s f)
+acted s (frame f) = obey s (frameRule (viewOf s) f)
 acted s (refusal r) = refuse s r
 
 -- the longest frame without a message
@@ -75,13 +76,13 @@ placed n ns tag = judged (00·25 when leb n (tag .0) ∷ []) found.Refused (foun
 
 -- the place that the checks lead to, or their refusal
 unfoldable pub located : State → Namespace → Tag → Found
-located s ns tag = judged (slotChecks s ns tag) found.Refused (found.Place (placeOf ns tag))
+located s ns tag = judged (slotChecks (viewOf s) ns tag) found.Refused (found.Place (placeOf ns tag))
 
 -- load, replace and clear one at the place that was found; the last check of the first two, and what both then do
 unfoldable pub putAt : State → ℕ → Contents → Outcome
 putAt s place x =
     judged
-    (07·0C when otherKey (s .keys) x
+    (07·0C when otherKey (viewOf s .slots) x
     ∷ [])
     (refuse s)
     (record { answer = Done; state = withKeys s (put slotWidth place (slotBytes x) (s .keys)) })
@@ -124,7 +125,7 @@ Known c false = isReading c ≡ true
 
 -- where the key checks of a managed namespace lead: a refusal, or a slot
 unfoldable pub keyed : State → Command → Reach
-keyed s c = judged (keyChecks s c) reach.Refused (reach.Place (placeOf (c .ns) (c .tag)))
+keyed s c = judged (keyChecks (viewOf s) c) reach.Refused (reach.Place (placeOf (c .ns) (c .tag)))
 
 -- where a known command leads: a refusal before the marks are looked at, an unmanaged namespace, or a slot
 unfoldable pub reached : State → Command → Reach
@@ -134,7 +135,7 @@ reached s c =
     ∷ 00·80 when outOfRange c
     ∷ [])
     reach.Refused
-    (cond (managed s (c .ns)) (keyed s c) reach.Unmanaged)
+    (cond (managed (viewOf s) (c .ns)) (keyed s c) reach.Unmanaged)
 
 -- ------------------------------------------------------------------------
 -- The three checks of a call: 07 0F, 07 0D, 07 0E

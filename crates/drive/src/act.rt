@@ -6,10 +6,9 @@ ghost use lib.ListN.{length, drop};
 ghost use Rattle.cells.specs.Cells.{part, zeros};
 ghost use Rattle.rules.specs.Numbers.{keySize, uidMost, digitsMost};
 ghost use Rattle.rules.specs.Aes.{scheduleWords};
-ghost use Rattle.rules.specs.State.{obey};
 ghost use Rattle.rules.specs.Slots.{FitKey};
 ghost use Rattle.rules.specs.Frames.{contentsAt};
-ghost use Rattle.rules.specs.Order.{step, load as loadRule, replace as replaceRule, discovery as discoveryRule};
+ghost use Rattle.rules.specs.Order.{obeys, step, load as loadRule, replace as replaceRule, discovery as discoveryRule};
 ghost use Rattle.frames.specs.Reading.{meant, Lies, readFrom};
 ghost use Rattle.drive.specs.Acting.{state, outcome, Ready, Sound, acted, replaceMost};
 use crate::Answered;
@@ -43,8 +42,8 @@ fn load(
 ) -> Answered
     requires { ⌜ Sound registers (now keys) × (FitKey (contentsAt keySize 5 l (now f)) × (5 + l + keySize ≤ length (now f))) ⌝ }
     ensures { λ r. ⌜ ((marks : List ℕ) → outcome r (now (keys .exit)) marks
-        ≡ obey (state registers (now (keys .entry)) marks)
-        (loadRule (state registers (now (keys .entry)) marks) ns tag (contentsAt keySize 5 l (now (f .entry))))) ⌝ }
+        ≡ obeys (state registers (now (keys .entry)) marks)
+        (λ v. loadRule v ns tag (contentsAt keySize 5 l (now (f .entry))))) ⌝ }
 {
     let u = 5 + l;
     let e = u + KEY_SIZE;
@@ -63,8 +62,8 @@ fn replace(
 ) -> Answered
     requires { ⌜ Sound registers (now keys) × (FitKey (contentsAt keySize (6 + o) l (now f)) × (6 + o + l + keySize ≤ length (now f))) ⌝ }
     ensures { λ r. ⌜ ((marks : List ℕ) → outcome r (now (keys .exit)) marks
-        ≡ obey (state registers (now (keys .entry)) marks)
-        (replaceRule (state registers (now (keys .entry)) marks) ns tag (part 5 o (now (f .entry))) (contentsAt keySize (6 + o) l (now (f .entry))))) ⌝ }
+        ≡ obeys (state registers (now (keys .entry)) marks)
+        (λ v. replaceRule v ns tag (part 5 o (now (f .entry))) (contentsAt keySize (6 + o) l (now (f .entry))))) ⌝ }
 {
     let t = 5 + o;
     let u = 6 + o;
@@ -76,7 +75,7 @@ fn replace(
 // Discovery: the answer says it all, and nothing changes.
 fn discovery(registers: Registers) -> Answered
     ensures { λ r. ⌜ ((keys marks : List ℕ) → outcome r keys marks
-        ≡ obey (state registers keys marks) (discoveryRule (state registers keys marks))) ⌝ }
+        ≡ obeys (state registers keys marks) discoveryRule) ⌝ }
 {
     Answered {
         answer: Answer::Discovery,

@@ -2,8 +2,7 @@
 ghost use mathlib.Core.Path.{_≡_};
 ghost use mathlib.Core.List.{List};
 ghost use Prim.Native.Nat.{ℕ};
-ghost use Rattle.rules.specs.State.{obey};
-ghost use Rattle.rules.specs.Order.{setFeatures, getFeatures, bootWrite, reset as resetRule};
+ghost use Rattle.rules.specs.Order.{obeys, setFeatures, getFeatures, bootWrite, reset as resetRule};
 ghost use Rattle.drive.specs.Acting.{state, outcome, Sound};
 use crate::Answered;
 use crate::answers::done;
@@ -16,7 +15,7 @@ use rules::Registers;
 // The pair goes by value, as all registers do; `locks::set_features` lends its own copy to the routine that changes it where it lies.
 pub(crate) fn set_features(registers: Registers, dword11: u32) -> Answered
     ensures { λ r. ⌜ ((keys marks : List ℕ) → outcome r keys marks
-        ≡ obey (state registers keys marks) (setFeatures (state registers keys marks) dword11)) ⌝ }
+        ≡ obeys (state registers keys marks) (λ v. setFeatures v dword11)) ⌝ }
 {
     let locks = registers.locks;
     let changed = locks::set_features(locks, dword11);
@@ -28,7 +27,7 @@ pub(crate) fn set_features(registers: Registers, dword11: u32) -> Answered
 
 pub(crate) fn get_features(registers: Registers) -> Answered
     ensures { λ r. ⌜ ((keys marks : List ℕ) → outcome r keys marks
-        ≡ obey (state registers keys marks) (getFeatures (state registers keys marks))) ⌝ }
+        ≡ obeys (state registers keys marks) getFeatures) ⌝ }
 {
     let locks = registers.locks;
     let answer = Answer::LockStates(locks::shown(locks));
@@ -37,7 +36,7 @@ pub(crate) fn get_features(registers: Registers) -> Answered
 
 pub(crate) fn boot_write(registers: Registers, partition: u8) -> Answered
     ensures { λ r. ⌜ ((keys marks : List ℕ) → outcome r keys marks
-        ≡ obey (state registers keys marks) (bootWrite (state registers keys marks) partition)) ⌝ }
+        ≡ obeys (state registers keys marks) (λ v. bootWrite v partition)) ⌝ }
 {
     let locks = registers.locks;
     let answer = locks::boot_write(locks, partition);
@@ -48,7 +47,7 @@ pub(crate) fn boot_write(registers: Registers, partition: u8) -> Answered
 pub(crate) fn reset(registers: Registers, keys: &mut [u8], level: u8) -> Answered
     requires { ⌜ Sound registers (now keys) ⌝ }
     ensures { λ r. ⌜ ((marks : List ℕ) → outcome r (now (keys .exit)) marks
-        ≡ obey (state registers (now (keys .entry)) marks) (resetRule (state registers (now (keys .entry)) marks) level)) ⌝ }
+        ≡ obeys (state registers (now (keys .entry)) marks) (λ v. resetRule v level)) ⌝ }
 {
     if level > 1 {
         return refused(registers, Refusal::InvalidField);

@@ -4,10 +4,10 @@ ghost use mathlib.Core.List.{[]};
 ghost use Prim.Native.Nat.{_+_, _*_, _<_};
 ghost use lib.ListN.{length};
 ghost use Rattle.cells.specs.Cells.{part};
-ghost use Rattle.rules.specs.State.{obey, count as countOf, IsNamespace};
+ghost use Rattle.rules.specs.State.{count as countOf, IsNamespace};
 ghost use Rattle.rules.specs.Numbers.{blocksEach, slotWidth, slotPlaces, cacheSize, markWidth};
 ghost use Rattle.rules.specs.Marks.{blockOf};
-ghost use Rattle.rules.specs.Order.{command as commandRule, outOfRange};
+ghost use Rattle.rules.specs.Order.{obeys, command as commandRule, outOfRange};
 ghost use Rattle.marks.specs.Store.{someDiffers, marked};
 ghost use Rattle.drive.specs.Acting.{state, outcome, Ready, accessOf, keyed, reached, Known, Sound};
 use crate::Access;
@@ -122,7 +122,7 @@ fn at_place(
 ) -> Answered
     requires { ⌜ Ready registers (now keys) (now marks) × Known c writes × (Reach.Place place ≡ reached (state registers (now keys) []) c) ⌝ }
     ensures { λ r. ⌜ outcome r (now (keys .entry)) (now (marks .exit))
-        ≡ obey (state registers (now (keys .entry)) (now (marks .entry))) (commandRule (state registers (now (keys .entry)) (now (marks .entry))) c) ⌝ }
+        ≡ obeys (state registers (now (keys .entry)) (now (marks .entry))) (λ v. commandRule v c) ⌝ }
 {
     let block = block_of(c);
     let n = c.more as usize + 1;
@@ -140,7 +140,7 @@ fn at_place(
 fn known(registers: Registers, keys: &[u8], marks: &mut [u8], c: Command, writes: bool) -> Answered
     requires { ⌜ Ready registers (now keys) (now marks) × Known c writes ⌝ }
     ensures { λ r. ⌜ outcome r (now (keys .entry)) (now (marks .exit))
-        ≡ obey (state registers (now (keys .entry)) (now (marks .entry))) (commandRule (state registers (now (keys .entry)) (now (marks .entry))) c) ⌝ }
+        ≡ obeys (state registers (now (keys .entry)) (now (marks .entry))) (λ v. commandRule v c) ⌝ }
 {
     match reach(registers, keys, c) {
         Reach::Refused(r) => refused(registers, r),
@@ -153,7 +153,7 @@ fn known(registers: Registers, keys: &[u8], marks: &mut [u8], c: Command, writes
 pub(crate) fn command(registers: Registers, keys: &[u8], marks: &mut [u8], c: Command) -> Answered
     requires { ⌜ Ready registers (now keys) (now marks) ⌝ }
     ensures { λ r. ⌜ outcome r (now (keys .entry)) (now (marks .exit))
-        ≡ obey (state registers (now (keys .entry)) (now (marks .entry))) (commandRule (state registers (now (keys .entry)) (now (marks .entry))) c) ⌝ }
+        ≡ obeys (state registers (now (keys .entry)) (now (marks .entry))) (λ v. commandRule v c) ⌝ }
 {
     let opcode = c.opcode;
     match access(opcode) {

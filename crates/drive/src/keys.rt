@@ -1,13 +1,14 @@
 // The frames on keys: manage, release, load, replace, clear one, clear all.
 ghost use mathlib.Core.Path.{_≡_};
-ghost use mathlib.Core.List.{List};
+ghost use mathlib.Core.List.{List, []};
 ghost use Prim.Native.Nat.{ℕ, _-_, _≤_, _<_};
 ghost use lib.ListN.{length, set};
 ghost use Rattle.rules.specs.Numbers.{slotPlaces, cacheSize};
-ghost use Rattle.rules.specs.State.{obey, total as totalOf, IsNamespace};
-ghost use Rattle.rules.specs.Order.{manage as manageRule, release as releaseRule, load as loadRule, replace as replaceRule, clearOne as clearOneRule};
+ghost use Rattle.rules.specs.View.{viewOf, otherKey};
+ghost use Rattle.rules.specs.State.{total as totalOf, IsNamespace};
+ghost use Rattle.rules.specs.Order.{obeys, manage as manageRule, release as releaseRule, load as loadRule, replace as replaceRule, clearOne as clearOneRule};
 ghost use Rattle.rules.specs.Order.{clearAll as clearAllRule};
-ghost use Rattle.rules.specs.Slots.{FitKey, otherKey};
+ghost use Rattle.rules.specs.Slots.{FitKey};
 ghost use Rattle.drive.specs.Acting.{state, outcome, contents, Ready, Sound, putAt, loadAt, replaceAt, clearAt};
 use crate::Answered;
 use crate::Found;
@@ -56,7 +57,7 @@ fn with_count(registers: Registers, ns: Namespace, tags: u8) -> Registers
 
 pub(crate) fn manage(registers: Registers, ns: Namespace, tags: u8) -> Answered
     ensures { λ r. ⌜ ((keys marks : List ℕ) → outcome r keys marks
-        ≡ obey (state registers keys marks) (manageRule (state registers keys marks) ns tags)) ⌝ }
+        ≡ obeys (state registers keys marks) (λ v. manageRule v ns tags)) ⌝ }
 {
     if no_namespace(ns) {
         return refused(registers, Refusal::InvalidNamespace);
@@ -86,7 +87,7 @@ pub(crate) fn release(
 ) -> Answered
     requires { ⌜ Ready registers (now keys) (now marks) ⌝ }
     ensures { λ r. ⌜ outcome r (now (keys .exit)) (now (marks .exit))
-        ≡ obey (state registers (now (keys .entry)) (now (marks .entry))) (releaseRule (state registers (now (keys .entry)) (now (marks .entry))) ns) ⌝ }
+        ≡ obeys (state registers (now (keys .entry)) (now (marks .entry))) (λ v. releaseRule v ns) ⌝ }
 {
     if no_namespace(ns) {
         return refused(registers, Refusal::InvalidNamespace);
@@ -103,7 +104,7 @@ pub(crate) fn release(
 pub(crate) fn clear_all(registers: Registers, keys: &mut [u8], ns: Namespace) -> Answered
     requires { ⌜ Sound registers (now keys) ⌝ }
     ensures { λ r. ⌜ ((marks : List ℕ) → outcome r (now (keys .exit)) marks
-        ≡ obey (state registers (now (keys .entry)) marks) (clearAllRule (state registers (now (keys .entry)) marks) ns)) ⌝ }
+        ≡ obeys (state registers (now (keys .entry)) marks) (λ v. clearAllRule v ns)) ⌝ }
 {
     if no_namespace(ns) {
         return refused(registers, Refusal::InvalidNamespace);
@@ -119,7 +120,7 @@ pub(crate) fn clear_all(registers: Registers, keys: &mut [u8], ns: Namespace) ->
 // 07 0C. In a sound state only allocated tags have a loaded slot, so that no other is looked at.
 fn other_key(registers: Registers, keys: &[u8], uid: &[u8], key: &[u8]) -> bool
     requires { ⌜ FitKey (contents (now uid) (now key)) × Sound registers (now keys) ⌝ }
-    ensures { λ r. ⌜ r ≡ otherKey (now (keys .entry)) (contents (now (uid .entry)) (now (key .entry))) ⌝ }
+    ensures { λ r. ⌜ r ≡ otherKey (viewOf (state registers (now (keys .entry)) []) .slots) (contents (now (uid .entry)) (now (key .entry))) ⌝ }
 {
     let counts = registers.counts;
     slots::other_key_allocated(counts, keys, uid, key)
@@ -159,8 +160,8 @@ pub(crate) fn load(
 ) -> Answered
     requires { ⌜ Sound registers (now keys) × FitKey (contents (now uid) (now key)) ⌝ }
     ensures { λ r. ⌜ ((marks : List ℕ) → outcome r (now (keys .exit)) marks
-        ≡ obey (state registers (now (keys .entry)) marks)
-        (loadRule (state registers (now (keys .entry)) marks) ns tag (contents (now (uid .entry)) (now (key .entry))))) ⌝ }
+        ≡ obeys (state registers (now (keys .entry)) marks)
+        (λ v. loadRule v ns tag (contents (now (uid .entry)) (now (key .entry))))) ⌝ }
 {
     match locate(registers, ns, tag) {
         Found::Refused(r) => refused(registers, r),
@@ -200,8 +201,8 @@ pub(crate) fn replace(
 ) -> Answered
     requires { ⌜ Sound registers (now keys) × FitKey (contents (now uid) (now key)) ⌝ }
     ensures { λ r. ⌜ ((marks : List ℕ) → outcome r (now (keys .exit)) marks
-        ≡ obey (state registers (now (keys .entry)) marks)
-        (replaceRule (state registers (now (keys .entry)) marks) ns tag (now (old .entry)) (contents (now (uid .entry)) (now (key .entry))))) ⌝ }
+        ≡ obeys (state registers (now (keys .entry)) marks)
+        (λ v. replaceRule v ns tag (now (old .entry)) (contents (now (uid .entry)) (now (key .entry))))) ⌝ }
 {
     match locate(registers, ns, tag) {
         Found::Refused(r) => refused(registers, r),
@@ -223,7 +224,7 @@ fn clear_at(registers: Registers, keys: &mut [u8], place: usize) -> Answered
 pub(crate) fn clear_one(registers: Registers, keys: &mut [u8], ns: Namespace, tag: Tag) -> Answered
     requires { ⌜ Sound registers (now keys) ⌝ }
     ensures { λ r. ⌜ ((marks : List ℕ) → outcome r (now (keys .exit)) marks
-        ≡ obey (state registers (now (keys .entry)) marks) (clearOneRule (state registers (now (keys .entry)) marks) ns tag)) ⌝ }
+        ≡ obeys (state registers (now (keys .entry)) marks) (λ v. clearOneRule v ns tag)) ⌝ }
 {
     match locate(registers, ns, tag) {
         Found::Refused(r) => refused(registers, r),

@@ -5,13 +5,13 @@ ghost use Prim.Native.Nat.{ℕ, _+_, _≤_};
 ghost use lib.ListN.{length, drop};
 ghost use Rattle.cells.specs.Cells.{part, write, zeros};
 ghost use Rattle.rules.specs.Numbers.{uidMost, wrappedSize, slotsSize, cacheSize};
+ghost use Rattle.rules.specs.View.{viewOf};
 ghost use Rattle.rules.specs.Checks.{AllPass};
 ghost use Rattle.rules.specs.Aes.{scheduleWords};
 ghost use Rattle.rules.specs.KeyWrap.{unwrap};
-ghost use Rattle.rules.specs.State.{obey};
 ghost use Rattle.rules.specs.Slots.{FitKey, FitWrapped};
 ghost use Rattle.rules.specs.Frames.{contentsAt};
-ghost use Rattle.rules.specs.Order.{slotChecks, load as loadRule, loadWrapped as wrappedRule};
+ghost use Rattle.rules.specs.Order.{obeys, slotChecks, load as loadRule, loadWrapped as wrappedRule};
 ghost use Rattle.wrap.specs.Wrapping.{told};
 ghost use Rattle.drive.specs.Acting.{state, outcome, Sound, replaceMost, openedAt};
 use crate::Answered;
@@ -53,8 +53,8 @@ fn clear(
 ) -> Answered
     requires { ⌜ Sound registers (now keys) × (FitKey (openedAt l (now f)) × (l ≤ uidMost) × (5 + l + wrappedSize ≤ length (now f))) ⌝ }
     ensures { λ r. ⌜ ((marks : List ℕ) → outcome r (now (keys .exit)) marks
-        ≡ obey (state registers (now (keys .entry)) marks)
-        (loadRule (state registers (now (keys .entry)) marks) ns tag (openedAt l (now (f .entry))))) ⌝ }
+        ≡ obeys (state registers (now (keys .entry)) marks)
+        (λ v. loadRule v ns tag (openedAt l (now (f .entry))))) ⌝ }
 {
     let u = 5 + l;
     let k = u + VALUE_SIZE;
@@ -73,10 +73,10 @@ fn opened(
     words: &mut [u32; SCHEDULE],
 ) -> Answered
     requires { ⌜ Sound registers (now keys) × (FitWrapped (contentsAt wrappedSize 5 l (now f)) × (5 + l + wrappedSize ≤ length (now f)))
-        × AllPass (slotChecks (state registers [] []) ns tag) ⌝ }
+        × AllPass (slotChecks (viewOf (state registers [] [])) ns tag) ⌝ }
     ensures { λ r. ⌜ ((marks : List ℕ) → outcome r (now (keys .exit)) marks
-        ≡ obey (state registers (now (keys .entry)) marks)
-        (wrappedRule (state registers (now (keys .entry)) marks) ns tag (contentsAt wrappedSize 5 l (now (f .entry)))))
+        ≡ obeys (state registers (now (keys .entry)) marks)
+        (λ v. wrappedRule v ns tag (contentsAt wrappedSize 5 l (now (f .entry)))))
         × (drop replaceMost (now (f .exit)) ≡ drop replaceMost (now (f .entry)))
         × (now (words .exit) ≡ zeros scheduleWords) ⌝ }
 {
@@ -98,8 +98,8 @@ pub(crate) fn load(
 ) -> Answered
     requires { ⌜ Sound registers (now keys) × (FitWrapped (contentsAt wrappedSize 5 l (now f)) × (5 + l + wrappedSize ≤ length (now f))) ⌝ }
     ensures { λ r. ⌜ ((marks : List ℕ) → outcome r (now (keys .exit)) marks
-        ≡ obey (state registers (now (keys .entry)) marks)
-        (wrappedRule (state registers (now (keys .entry)) marks) ns tag (contentsAt wrappedSize 5 l (now (f .entry)))))
+        ≡ obeys (state registers (now (keys .entry)) marks)
+        (λ v. wrappedRule v ns tag (contentsAt wrappedSize 5 l (now (f .entry)))))
         × (drop replaceMost (now (f .exit)) ≡ drop replaceMost (now (f .entry)))
         × (now (words .entry) ≡ zeros scheduleWords → now (words .exit) ≡ zeros scheduleWords) ⌝ }
 {

@@ -23,6 +23,7 @@ use Rattle.rules.proofs.AnswersLaws.{lines-then, split-answers}
 use Rattle.rules.proofs.SayableLaws.{sayable-answers}
 use Rattle.rules.proofs.CallLaws.{call-unread, call-read, session-ran}
 use Rattle.rules.proofs.Promised as rules
+use Rattle.rules.proofs.ToldLaws.{view-as-told, answer-as-told}
 use Rattle.promises.specs.Leaves.{StartLeaves, SessionLeaves}
 use Rattle.promises.specs.Demands.{Shows, SinceStart, started, unread, no-session, Answers, by-call, in-session, Demands}
 use Rattle.promises.specs.Demands as since
@@ -116,4 +117,6 @@ demands = record {
   count-as-told = λ h s led. rules.count-as-told h s (from-fresh h s led);
   pool-too-small-when = λ h s line answer a. rules.pool-too-small-when h s line answer (steps h s line answer a);
   never-unsound = λ h s led. rules.never-unsound h s (from-fresh h s led);
+  view-as-told = λ h s led. view-as-told h s (from-fresh h s led);
+  answer-as-told = λ h s line answer a. answer-as-told h s line answer (steps h s line answer a);
 }

@@ -21,6 +21,7 @@ use Rattle.rules.specs.Promises.{StartRefusedWhen, StartRefusedKeeps, StartsFre
 use Rattle.rules.specs.Promises.{RefusedWhen, DoneWhen, RefusedKeeps, KekStays, Writes}
 use Rattle.rules.specs.Promises.{SessionRefusedWhen, SessionRefusedKeeps, SessionKekStays, SessionAnswers}
 use Rattle.rules.specs.Promises.{SlotAsTold, OneKeyForAKeyUid, CountAsTold, NeverUnsound, SameKeyUidOrNever, LoadFindsNothing, PoolTooSmallWhen}
+use Rattle.rules.specs.Promises.{ViewAsTold, AnswerAsTold}
 use Rattle.promises.specs.Leaves.{StartLeaves, CallLeaves, SessionLeaves}
 
 -- the output of a session that was not refused shows just these answers, one line after another
@@ -85,3 +86,5 @@ pub record Demands : Type 0 where
   pub count-as-told : CountAsTold SinceStart
   pub pool-too-small-when : PoolTooSmallWhen Answers
   pub never-unsound : NeverUnsound SinceStart
+  pub view-as-told : ViewAsTold SinceStart
+  pub answer-as-told : AnswerAsTold Answers

@@ -17,9 +17,10 @@ use Rattle.cells.proofs.CellsLaws.{length-cell}
 use Rattle.cells.proofs.PredicatesLaws.{some-same, then-none}
 use Rattle.rules.specs.Numbers.{uidMost, tagsMost, slotWidth, slotPlaces, cacheSize}
 use Rattle.rules.specs.State.{State}
-use Rattle.rules.specs.Slots.{Contents, empty, keyOf, otherKeyIn, otherKey}
+use Rattle.rules.specs.Slots.{Contents, empty, keyOf}
 use Rattle.rules.specs.Sound.{unsound}
-use Rattle.rules.proofs.SlotsLaws.{empty-other}
+use Rattle.rules.specs.View.{viewOf, otherKey}
+use Rattle.rules.proofs.OtherKeyLaws.{otherKeyIn, other-key, otherKeyAmong, empty-other}
 use Rattle.rules.proofs.SoundLaws.{sound-cache, counted, sound-at, unallocated-at}
 use Rattle.slots.specs.Cache.{allocated, headBytes, otherKeyBehind, otherKeyAllocated}
 use Rattle.rules.proofs.StateLaws.{right-cache}
@@ -78,8 +79,9 @@ module _ (s : State) (sound : unsound s ≡ false) where
         (λ lt. by-bool (empty (at i)) (empty-same i) (allocated-same i l lt))
         (λ ge. empty-same i (unallocated-at s sound i l (omega arith)))
 
-    pub sound-other-key : otherKeyAllocated (s .registers .counts) (s .keys) x ≡ otherKey (s .keys) x
-    unfolding otherKey
+    pub sound-other-key : otherKeyAllocated (s .registers .counts) (s .keys) x ≡ otherKey (viewOf s .slots) x
+    unfolding otherKeyAmong
     sound-other-key =
         other-key-is (s .registers .counts) (s .keys) (sound-cache s sound) x
         ∙ some-same slotWidth other (λ i c. otherKeyIn x c) 0 slotPlaces (s .keys) (λ k l. same-at (0 + k) (omega arith))
+        ∙ sym (other-key s x)

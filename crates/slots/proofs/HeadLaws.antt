@@ -15,7 +15,8 @@ use Rattle.cells.specs.Predicates.{same, allZero}
 use Rattle.cells.proofs.CellsLaws.{part-join, part-byte, length-part, getD-part}
 use Rattle.cells.proofs.PredicatesLaws.{same-refl, same-eq, allZero-eq, true-or-false}
 use Rattle.rules.specs.Numbers.{uidMost, slotWidth}
-use Rattle.rules.specs.Slots.{Contents, padded, uidLength, empty, uidOf, keyOf, otherKeyIn}
+use Rattle.rules.specs.Slots.{Contents, padded, uidLength, empty, uidOf, keyOf}
+use Rattle.rules.proofs.OtherKeyLaws.{otherKeyIn}
 use Rattle.rules.specs.Sound.{afterUid, slotUnsound}
 use Rattle.rules.proofs.SlotsLaws.{padded-eq}
 use Rattle.rules.proofs.SoundLaws.{long-is, rest-is}

@@ -65,7 +65,7 @@ headBytes uid = length uid ∷ padded uidMost uid
 unfoldable pub otherKeyBehind : List ℕ → List ℕ → List ℕ → Bool
 otherKeyBehind head key c = same (headOf c) head && not (same (keyOf c) key)
 
--- 07 0C at an allocated tag, by heads. For a KeyUID of 1 byte or more in a sound state it is `otherKey`: a stored KeyUID is padded with
+-- 07 0C at an allocated tag, by heads. For a KeyUID of 1 byte or more in a sound state it is `rules` `otherKey`: a stored KeyUID is padded with
 -- zeros, and every slot at another tag is empty.
 unfoldable pub otherKeyAllocated : List ℕ → List ℕ → Contents → Bool
 otherKeyAllocated counts keys x =

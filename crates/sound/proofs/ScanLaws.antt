@@ -14,7 +14,8 @@ use Rattle.cells.specs.Predicates.{allZero, someCell}
 use Rattle.cells.proofs.CellsLaws.{part-cell}
 use Rattle.cells.proofs.PredicatesLaws.{some-start, some-split, some-same, marked, some-marked}
 use Rattle.rules.specs.Numbers.{namespaces, poolSlots, tagsMost, uidMost, slotWidth, slotPlaces, cacheSize}
-use Rattle.rules.specs.State.{State, tagAbove, total}
+use Rattle.rules.specs.View.{viewOf, tagAbove}
+use Rattle.rules.specs.State.{State, total}
 use Rattle.rules.specs.Slots.{namespaceAt, tagAt, empty}
 use Rattle.rules.specs.Sound.{someAbove, afterUid, slotUnsound, unsound}
 use Rattle.rules.proofs.StateLaws.{right-cache}
@@ -123,7 +124,7 @@ module _ (s : State) (size : length (s .keys) ≡ cacheSize) where
       let n : (k : ℕ) → (0 + k) / tagsMost + 1 - 1 ≡ (0 + k) / tagsMost = (λ k. omega arith) in
       (rw (right-cache (s .keys) size))
       ∙ ap (λ b. countsUnsound || b)
-      (some-same slotWidth (λ i c. slotUnsound (tagAbove s (namespaceAt i) (tagAt i)) c) (unsoundAt (s .registers .counts)) 0 slotPlaces (s .keys)
+      (some-same slotWidth (λ i c. slotUnsound (tagAbove (viewOf s) (namespaceAt i) (tagAt i)) c) (unsoundAt (s .registers .counts)) 0 slotPlaces (s .keys)
       (λ k l. ap (λ i. slotUnsound (leb (getD (s .registers .counts) i 0) ((0 + k) % tagsMost)) (cell slotWidth (0 + k) (s .keys))) (n k)))
 
   pub unsound-counts : countsUnsound ≡ true → unsound s ≡ true

@@ -5,7 +5,8 @@ use mathlib.Core.Path.{_≡_, sym, ap, _∙_}
 use mathlib.Core.Bool.{true, false}
 use mathlib.Core.List.{[]}
 use Prim.Native.Nat.{ℕ}
-use Rattle.rules.specs.State.{noNamespace, managed}
+use Rattle.rules.specs.State.{noNamespace}
+use Rattle.rules.specs.View.{viewOf, managed}
 use Rattle.rules.proofs.StateLaws.{is-namespace}
 use Rattle.drive.specs.Acting.{state, placed, located}
 use Rattle.drive.proofs.KeysLaws.{managed-by, unmanaged-by}
@@ -34,7 +35,7 @@ returns-2 c =
     let e : tie.Else1 = search in
     let k : tie.After-count = search in
     let named : noNamespace (a .ns) ≡ false = sym (n .no-namespace .ensures) ∙ e .if1 .left in
-    let free : managed (state (a .registers) [] []) (a .ns) ≡ false = unmanaged-by (a .registers) (a .ns) _ (k .count .ensures) (c .if2 .taken) in
+    let free : managed (viewOf (state (a .registers) [] [])) (a .ns) ≡ false = unmanaged-by (a .registers) (a .ns) _ (k .count .ensures) (c .if2 .taken) in
     rw (named, free)
 
 place-requires : tie.Need-place-requires
@@ -54,7 +55,7 @@ returns-3 c =
     let k : tie.After-count = search in
     let g : tie.Else2 = search in
     let named : noNamespace (a .ns) ≡ false = sym (n .no-namespace .ensures) ∙ e .if1 .left in
-    let held : managed (state (a .registers) [] []) (a .ns) ≡ true = managed-by (a .registers) (a .ns) _ (k .count .ensures) (g .if2 .left) in
+    let held : managed (viewOf (state (a .registers) [] [])) (a .ns) ≡ true = managed-by (a .registers) (a .ns) _ (k .count .ensures) (g .if2 .left) in
     rw (named, held) (c .place .ensures ∙ ap (λ (m : ℕ). placed m (a .ns) (a .tag)) (k .count .ensures))
 
 pub locate-spec : {M : Type 1} → statement M

@@ -6,9 +6,12 @@ use mathlib.Core.Bool.{true, false}
 use mathlib.Core.List.{[]}
 use Prim.Native.Nat.{_+_}
 use lib.Dec.{eqb, ltb}
+use lib.ListN.{length}
 use borrow.Author.Tests.{eq-eqb, ne-eqb, lt-ltb, le-ltb}
-use Rattle.rules.specs.Numbers.{tagsMost, poolSlots}
-use Rattle.rules.specs.State.{noNamespace, managed, total}
+use Rattle.rules.specs.Numbers.{namespaces, tagsMost, poolSlots}
+use Rattle.rules.proofs.ViewLaws.{all-tags}
+use Rattle.rules.specs.View.{viewOf, managed}
+use Rattle.rules.specs.State.{noNamespace, total}
 use Rattle.rules.specs.Effects.{setCount}
 use Rattle.rules.specs.Order.{manage}
 use Rattle.rules.proofs.StateLaws.{is-namespace}
@@ -17,12 +20,15 @@ use Rattle.drive.proofs.KeysLaws.{managed-by, unmanaged-by}
 use Rattle.drive.proofs.keys.manage.Statement.{statement}
 use Rattle.drive.proofs.keys.manage.Tie as tie
 
+counted : (s : tie.Start) → length (s .args .registers .counts) ≡ namespaces
+counted s = search needs
+
 named : (e : tie.Else1) → let s : tie.Start = search in noNamespace (s .args .ns) ≡ false
 named e =
     let n : tie.After-no-namespace = search in
     sym (n .no-namespace .ensures) ∙ e .if1 .left
 
-free : (g : tie.Else2) → let s : tie.Start = search in managed (state (s .args .registers) [] []) (s .args .ns) ≡ false
+free : (g : tie.Else2) → let s : tie.Start = search in managed (viewOf (state (s .args .registers) [] [])) (s .args .ns) ≡ false
 free g =
     let k : tie.After-count = search in
     let s : tie.Start = search in
@@ -89,7 +95,7 @@ returns-5 c =
     let s : tie.Start = search in
     let above : ltb poolSlots (total (s .args .registers .counts) + s .args .tags) ≡ true =
     rw (← m .total .ensures .0) (lt-ltb poolSlots (m .total .result + s .args .tags) (t .if5 .taken)) in
-    rw (c .refused5 .ensures, named e, free g, some h, few j, above)
+    rw (c .refused5 .ensures, named e, free g, some h, few j, all-tags (state (s .args .registers) keys marks) (counted s), above)
 
 with-count-requires : tie.Need-with-count-requires
 with-count-requires c κs =
@@ -110,7 +116,7 @@ returns-6 c =
     let s : tie.Start = search in
     let room : ltb poolSlots (total (s .args .registers .counts) + s .args .tags) ≡ false =
     rw (← m .total .ensures .0) (le-ltb poolSlots (m .total .result + s .args .tags) (o .if5 .left)) in
-    rw (c .done .ensures, w .with-count .ensures, named e, free g, some h, few j, room)
+    rw (c .done .ensures, w .with-count .ensures, named e, free g, some h, few j, all-tags (state (s .args .registers) keys marks) (counted s), room)
 
 pub manage-spec : {M : Type 1} → statement M
 manage-spec =

@@ -4,7 +4,8 @@ use borrow.Author.Needs.{needs}
 use mathlib.Core.Path.{_≡_, sym, ap, _∙_}
 use mathlib.Core.Bool.{true, false}
 use mathlib.Core.List.{[]}
-use Rattle.rules.specs.State.{noNamespace, managed}
+use Rattle.rules.specs.State.{noNamespace}
+use Rattle.rules.specs.View.{viewOf, managed}
 use Rattle.rules.specs.Effects.{setCount, emptySlots, zeroMarks}
 use Rattle.rules.specs.Order.{release}
 use Rattle.rules.proofs.StateLaws.{is-namespace}
@@ -20,7 +21,7 @@ named e =
     let n : tie.After-no-namespace = search in
     sym (n .no-namespace .ensures) ∙ e .if1 .left
 
-held : (g : tie.Else2) → let s : tie.Start = search in managed (state (s .args .registers) [] []) (s .args .ns) ≡ true
+held : (g : tie.Else2) → let s : tie.Start = search in managed (viewOf (state (s .args .registers) [] [])) (s .args .ns) ≡ true
 held g =
     let k : tie.After-count = search in
     let s : tie.Start = search in

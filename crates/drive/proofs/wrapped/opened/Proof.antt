@@ -11,6 +11,7 @@ use Rattle.rules.specs.Numbers.{wrappedSize, slotsSize}
 use Rattle.rules.specs.State.{obey}
 use Rattle.rules.specs.Frames.{contentsAt}
 use Rattle.rules.specs.KeyWrap.{unwrap}
+use Rattle.rules.specs.View.{viewOf}
 use Rattle.rules.specs.Order.{load}
 use Rattle.drive.specs.Acting.{state}
 use Rattle.drive.proofs.ActingLaws.{cache-of}
@@ -73,7 +74,7 @@ returns-2 c =
       λ marks.
           let now = state (a .registers) (a .keys .now) marks in
           l .clear .ensures marks
-          ∙ ap (λ x. obey now (load now (a .ns) (a .tag) x)) (contents-is kek f (a .l) fit room _ (o .open .ensures .1) some)
+          ∙ ap (λ x. obey now (load (viewOf now) (a .ns) (a .tag) x)) (contents-is kek f (a .l) fit room _ (o .open .ensures .1) some)
           ∙ wrapped-open (a .registers) (a .keys .now) marks (a .ns) (a .tag) (contentsAt wrappedSize 5 (a .l) f) (some .key) (some .is),
       rest-same kek f (a .l) fit room _ (o .open .ensures .1),
       o .open .ensures .2,
