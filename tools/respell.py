@@ -11,9 +11,9 @@ import glob
 import re
 import sys
 
-# Lemmas whose name has the snake form of a definition: where no path leads to it, such a name gets `_lem` behind it.
 # A name of the library too.
 KEEP = {"and-true"}
+# Lemmas whose name has the snake form of a definition: where no path leads to it, such a name gets `_lem` behind it.
 LEMMAS = {"has_other", "near_step", "other_key", "read_as", "same_tag", "with_value", "four_bytes"}
 TOKEN = re.compile(r"[^\s(){}\[\];,.\"`@]+")
 DECLARATION = re.compile(r"^\s*(?:(?:pub|abbrev|unfoldable|private)\s+)*((?:[^\s:(){}\"]+\s+)+):\s")
