@@ -17,7 +17,7 @@ mod tables;
 use rules::KEY_SIZE;
 
 // Four words: the columns of a state.
-#[derive(Drop)]
+#[derive(Clone, Copy)]
 pub struct Block {
     pub a: u32,
     pub b: u32,

@@ -27,7 +27,7 @@ pub type Cache = [u8; CACHE_SIZE];
 pub type Marks = [u8; MOST];
 
 // A drive to call, and how many bytes of the cache, of the store and of the output are lent to it.
-#[derive(Drop)]
+#[derive(Clone, Copy)]
 pub struct Setting {
     pub registers: Registers,
     pub cache: usize,

@@ -30,7 +30,7 @@ pub fn read_line(line: &[u8], frame: &mut [u8; FRAME_MOST]) -> LineRead
 }
 
 // What a refusal tells of a line: the reason, 0 for those that tell nothing, and the place.
-#[derive(Drop)]
+#[derive(Clone, Copy)]
 pub(crate) struct Fault {
     pub reason: u8,
     pub place: usize,

@@ -1,5 +1,7 @@
 // Level 0 Discovery: the writer of a response, for any fields, and the reader that a host uses, for any bytes. Every public function is
 // total.
+#![tactic(auto)]
+
 ghost use Rattle.std.specs.Prelude.{◌≡◌};
 ghost use Rattle.rules.specs.Discovery.{own_fields};
 ghost use Rattle.rules.specs.Discovering.{respond, discovered};
@@ -15,7 +17,7 @@ use rules::{
 };
 
 // Where the two features that we look for first stand, 0 where there is none; or that a feature runs past the end.
-#[derive(Drop)]
+#[derive(Clone, Copy)]
 pub(crate) enum Walked {
     Places(usize, usize),
     RunsPast,

@@ -24,14 +24,14 @@ use rules::{
 };
 
 // An answer, and the registers after it.
-#[derive(Drop)]
+#[derive(Clone, Copy)]
 pub struct Answered {
     pub answer: Answer,
     pub registers: Registers,
 }
 
 // What a call for one line hands back: its answer, the registers, the bytes written.
-#[derive(Drop)]
+#[derive(Clone, Copy)]
 pub struct Reply {
     pub answer: Answer,
     pub registers: Registers,
@@ -39,7 +39,7 @@ pub struct Reply {
 }
 
 // What a session hands back: 0000 or the number that refused it, the registers, lines answered, bytes written.
-#[derive(Drop)]
+#[derive(Clone, Copy)]
 pub struct SessionReply {
     pub result: Answer,
     pub registers: Registers,
@@ -48,14 +48,14 @@ pub struct SessionReply {
 }
 
 // Where a namespace and a tag lead.
-#[derive(Drop)]
+#[derive(Clone, Copy)]
 pub(crate) enum Found {
     Place(usize),
     Refused(Refusal),
 }
 
 // What an opcode does to the medium.
-#[derive(Drop)]
+#[derive(Clone, Copy)]
 pub(crate) enum Access {
     Write,
     Reads,
@@ -63,7 +63,7 @@ pub(crate) enum Access {
 }
 
 // Where a known command leads.
-#[derive(Drop)]
+#[derive(Clone, Copy)]
 pub(crate) enum Reach {
     Place(usize),
     Unmanaged,
@@ -71,7 +71,7 @@ pub(crate) enum Reach {
 }
 
 // Whether a call goes on to its lines.
-#[derive(Drop)]
+#[derive(Clone, Copy)]
 pub(crate) enum Admission {
     Open,
     Refused(Refusal),

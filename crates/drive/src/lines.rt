@@ -10,7 +10,7 @@ use std::num::wrapping_sub_u8;
 const LINE_FEED: u8 = 10;
 
 // A line of a text: where it ends, and where the next one starts.
-#[derive(Drop)]
+#[derive(Clone, Copy)]
 pub(crate) struct Line {
     pub end: usize,
     pub next: usize,

@@ -16,7 +16,7 @@ pub const BROUGHT_MOST: usize = UID_MOST + KEY_SIZE;
 // A frame as it was read. A load's KeyUID lies from byte 5 on and has so many bytes; its key, clear or
 // wrapped, lies behind it. A replace's old KeyUID lies
 // from byte 5 on, the new one behind it and a length byte, the key behind that. specs/Reading.antt says what each stands for.
-#[derive(Drop)]
+#[derive(Clone, Copy)]
 pub enum FrameRead {
     Manage(Namespace, u8),
     Release(Namespace),

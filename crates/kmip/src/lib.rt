@@ -19,7 +19,7 @@ use writing::lay;
 pub const MESSAGE_ROOM: usize = 408;
 
 // Where the first item of a tag stands, and what it is; at the run's end where there is none.
-#[derive(Drop)]
+#[derive(Clone, Copy)]
 pub(crate) struct Place {
     pub at: usize,
     pub front: Front,
@@ -27,7 +27,7 @@ pub(crate) struct Place {
 
 // A member by places, if it was found: its value is the `length` bytes from `start` on, and the items behind it begin at `next`; the
 // members of a structure stand from `start` up to there.
-#[derive(Drop)]
+#[derive(Clone, Copy)]
 pub(crate) struct Member {
     pub found: bool,
     pub start: usize,
@@ -36,14 +36,14 @@ pub(crate) struct Member {
 }
 
 // Whether a row of a table is met, and where the items behind its item begin.
-#[derive(Drop)]
+#[derive(Clone, Copy)]
 pub(crate) struct Step {
     pub good: bool,
     pub next: usize,
 }
 
 // What an Attribute leaves of the two that a message needs: whether all is well, and which of the two have been seen.
-#[derive(Drop)]
+#[derive(Clone, Copy)]
 pub(crate) struct Seen {
     pub good: bool,
     pub namespace: bool,
@@ -51,7 +51,7 @@ pub(crate) struct Seen {
 }
 
 // A Key Block that was found: its members stand from `start` up to `next`, and its key begins at `key`.
-#[derive(Drop)]
+#[derive(Clone, Copy)]
 pub(crate) struct Block {
     pub found: bool,
     pub start: usize,
@@ -60,7 +60,7 @@ pub(crate) struct Block {
 }
 
 // What a message brings, by places: the KeyUID is the `length` bytes from `uid` on, the key begins at `key`.
-#[derive(Drop)]
+#[derive(Clone, Copy)]
 pub(crate) struct Load {
     pub good: bool,
     pub uid: usize,
@@ -69,7 +69,7 @@ pub(crate) struct Load {
 }
 
 // What a message comes to: no room for what it may bring, 07 17, 07 18, or a KeyUID of so many bytes and a key.
-#[derive(Drop)]
+#[derive(Clone, Copy)]
 pub enum MessageRead {
     NoRoom,
     NoLoad,
@@ -78,7 +78,7 @@ pub enum MessageRead {
 }
 
 // What writing a message comes to: no room, a key of other than 32 bytes, a KeyUID that is empty or too long, or so many bytes.
-#[derive(Drop)]
+#[derive(Clone, Copy)]
 pub enum MessageWritten {
     NoRoom,
     NoKey,

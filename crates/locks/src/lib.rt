@@ -1,4 +1,6 @@
 // The two boot partitions' locks: judged and changed by value, and changed where they lie.
+#![tactic(auto)]
+
 ghost use Rattle.std.specs.Prelude.{◌≡◌};
 ghost use Rattle.rules.specs.Locks.{lock_value, asked as askedFor, asks_held, shown as shownIn, both_locked};
 ghost use Rattle.locks.specs.Deciding.{decided, boot_written};
@@ -6,7 +8,7 @@ ghost use Rattle.locks.specs.Deciding.{decided, boot_written};
 use rules::{Answer, BootLocks, Lock, Refusal};
 
 // What Set Features leaves: its answer, and the pair, changed or as it was.
-#[derive(Drop)]
+#[derive(Clone, Copy)]
 pub struct Changed {
     pub answer: Answer,
     pub locks: BootLocks,

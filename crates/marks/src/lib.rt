@@ -1,4 +1,6 @@
 // The mark store, lent by the caller at any length: a block's mark is the MARK_WIDTH bytes from block * MARK_WIDTH. Every public function is total.
+#![tactic(auto)]
+
 ghost use Rattle.std.specs.Prelude.{◌≡◌, ◌+◌, ◌*◌, ◌≤◌, ◌<◌, length};
 ghost use Rattle.cells.specs.Cells.{cell, copies, fill};
 ghost use Rattle.cells.specs.Predicates.{some_cell};

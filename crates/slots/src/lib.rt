@@ -1,5 +1,7 @@
 // The key cache, lent by the caller at any length: the slot of a place is the SLOT_WIDTH bytes from place * SLOT_WIDTH. Every function is
 // total; a cache of another length than CACHE_SIZE has no slots, and stays.
+#![tactic(auto)]
+
 ghost use Rattle.std.specs.Prelude.{◌≡◌, ◌&&◌};
 ghost use Rattle.cells.specs.Predicates.{same};
 ghost use Rattle.rules.specs.Slots.{loaded as isLoaded, uid_of};

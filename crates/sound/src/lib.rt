@@ -1,4 +1,6 @@
 // Whether a state is sound: 07 0E. The cache is lent by the caller, at any length.
+#![tactic(auto)]
+
 ghost use Rattle.std.specs.Prelude.{◌≡◌, false, ◌||◌, [], ◌+◌, ◌*◌, ◌/◌, ◌%◌, ◌≤◌, ◌<◌, leb, ltb, length, get_or};
 ghost use Rattle.cells.specs.Cells.{cell};
 ghost use Rattle.cells.specs.Predicates.{some_cell};

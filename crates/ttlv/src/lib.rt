@@ -1,4 +1,6 @@
 // TTLV, the encoding of the KMIP standard: what stands in any bytes. The rules are in `rules` specs/Ttlv.antt.
+#![tactic(auto)]
+
 ghost use Rattle.std.specs.Prelude.{◌≡◌};
 ghost use Rattle.rules.specs.Ttlv.{read_items};
 ghost use Rattle.ttlv.specs.ItemList.{is_some};
@@ -29,7 +31,7 @@ pub const MESSAGE_MOST: usize = 508;
 const LENGTHS: usize = 0x1_0000_0000;
 
 // An item of a list in the order of the bytes: its value is the `length` bytes from `start` on.
-#[derive(Drop)]
+#[derive(Clone, Copy)]
 pub struct Item {
     pub tag: u32,
     pub kind: u32,
@@ -39,7 +41,7 @@ pub struct Item {
 }
 
 // The head of an item.
-#[derive(Drop)]
+#[derive(Clone, Copy)]
 pub(crate) struct Head {
     pub tag: u32,
     pub kind: u8,
@@ -47,7 +49,7 @@ pub(crate) struct Head {
 }
 
 // What stands at the front of a run of bytes, by places: a value and where the next item would start, or a structure.
-#[derive(Drop)]
+#[derive(Clone, Copy)]
 pub enum Front {
     NoItem,
     Value {
@@ -63,7 +65,7 @@ pub enum Front {
 }
 
 // What reading a list came to: so many items, too few places for any message, or bytes that are no items.
-#[derive(Drop)]
+#[derive(Clone, Copy)]
 pub enum ListRead {
     Listed(usize),
     NoPlaces,
@@ -71,7 +73,7 @@ pub enum ListRead {
 }
 
 // What writing a list came to: so many bytes, too little room, or numbers that are no item list.
-#[derive(Drop)]
+#[derive(Clone, Copy)]
 pub enum Written {
     Bytes(usize),
     Short,

@@ -1,0 +1,10 @@
+-- `tper_bytes` meets its contract: byte by byte.
+-- Assumes nothing.
+use native.Mathlib.Nat.{mul-one}
+use Rattle.cells.specs.Cells.{zeros}
+use Rattle.rules.specs.Discovery.{tper_bytes}
+use Rattle.discovery.proofs.writing.tper_bytes.Goals as goal
+
+pub returns : goal.returns
+unfolding tper_bytes zeros
+returns c = simp mul-one

@@ -1,0 +1,27 @@
+-- `holds_uid` meets its contract.
+-- Assumes nothing.
+use Rattle.slots.specs.Cache.{slot_at}
+use Rattle.rules.proofs.StateLaws.{wrong_cache_lem}
+use Rattle.slots.proofs.CacheLaws.{slot_is, slot_past, loaded_not, loaded_is}
+use Rattle.slots.proofs.holds_uid.Goals as goal
+
+pub returns-then-keys-ne-CACHE_SIZE : goal.returns-then-keys-ne-CACHE_SIZE
+unfolding slot_at
+returns-then-keys-ne-CACHE_SIZE c =
+    rw (wrong_cache_lem c.args.keys.now c.if-keys-ne-CACHE_SIZE.true)
+
+pub returns-then-place-ge-SLOT_PLACES : goal.returns-then-place-ge-SLOT_PLACES
+returns-then-place-ge-SLOT_PLACES c =
+    rw (slot_past c.args.keys.now c.if-keys-ne-CACHE_SIZE.false c.args.place c.if-place-ge-SLOT_PLACES.true)
+
+pub returns-then-keys-a-eq0 : goal.returns-then-keys-a-eq0
+returns-then-keys-a-eq0 c =
+    rw (loaded_not c.args.keys.now c.args.place c.if-keys-ne-CACHE_SIZE.false c.if-place-ge-SLOT_PLACES.false c.if-keys-a-eq0.true)
+
+pub returns : goal.returns
+returns c =
+    rw (
+      loaded_is c.args.keys.now c.args.place c.if-keys-ne-CACHE_SIZE.false c.if-place-ge-SLOT_PLACES.false c.if-keys-a-eq0.false,
+      slot_is c.args.keys.now c.if-keys-ne-CACHE_SIZE.false c.args.place c.if-place-ge-SLOT_PLACES.false,
+    )
+    c.same_uid.ensures

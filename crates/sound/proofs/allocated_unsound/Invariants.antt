@@ -1,0 +1,14 @@
+-- Assumes nothing.
+use mathlib.Core.Path.{◌≡◌}
+use mathlib.Core.Bool.{false}
+use Prim.Native.Nat.{◌+◌, ◌-◌, ◌≤◌}
+use Rattle.cells.specs.Predicates.{some_cell}
+use Rattle.rules.specs.Numbers.{slot_width, slot_places}
+use Rattle.sound.proofs.ScanLaws.{allocated_unsound}
+use Rattle.sound.proofs.allocated_unsound.Given as goal
+
+abbrev pub invariant-loop-i : goal.invariant-loop-i
+invariant-loop-i l = (l.i ≤ l.n) × (l.first + l.n ≤ slot_places) × (some_cell slot_width l.first l.i allocated_unsound l.keys ≡ false)
+
+abbrev pub decreases-loop-i : goal.decreases-loop-i
+decreases-loop-i l = l.n - l.i

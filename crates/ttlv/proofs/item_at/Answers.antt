@@ -1,0 +1,22 @@
+-- `item_at` meets its contract.
+-- Assumes nothing.
+use mathlib.Core.Path.{sym, ◌∙◌}
+use Rattle.ttlv.proofs.FrontLaws.{from_places, item_there, item_back, item_past}
+use Rattle.ttlv.proofs.item_at.Goals as goal
+
+pub returns-then-at-end : goal.returns-then-at-end
+returns-then-at-end c =
+    let s = c.args in
+    sym (item_back s.bytes.now s.at s.end c.if-at-end.true)
+
+pub returns-then-end-bytes : goal.returns-then-end-bytes
+returns-then-end-bytes c =
+    let s = c.args in
+    sym (item_past s.bytes.now s.at s.end c.if-at-end.false c.if-end-bytes.true)
+
+pub returns : goal.returns
+returns c =
+    let s = c.args in
+    let l = c.if-at-end.false in
+    let m = c.if-end-bytes.false in
+    sym (item_there s.bytes.now s.at s.end l m ∙ from_places s.bytes.now s.at s.end l m _ c.Front-at.ensures)

@@ -1,0 +1,70 @@
+-- `lay` meets its contract: the pieces so far, and what is left of the items completes the whole.
+-- Assumes nothing.
+use native.Mathlib.Omega.{arith}
+use Prim.Native.Nat.{◌-◌}
+use Rattle.ttlv.specs.Listing.{items_in}
+use Rattle.ttlv.specs.Pieces.{item_no}
+use Rattle.ttlv.proofs.ItemsInLaws.{next_item, no_item}
+use Rattle.ttlv.proofs.LayLaws.{Piece, lay_start, lay_end, piece_inside, piece_room, piece_lent, lay_more}
+use Rattle.ttlv.proofs.writing.lay.Goals as goal
+
+pub loop-i-init : goal.loop-i-init
+loop-i-init c =
+    let s = c.args in
+    lay_start s.values.now (items_in s.count s.items.now) s.out.now
+
+pub as_written-item-requires : goal.as_written-item-requires
+as_written-item-requires c =
+    let p = c.requires in
+    let f = p.fits in
+    let sum = c.loop-i.invariant.sum in
+    record { enough = p.enough; one_of = c.loop-i-test.true; fits = omega arith }
+
+-- a piece is to be laid
+piece : (c : goal.After-as_written-item)
+    → let s = c.args in
+    let l = c.loop-i in
+    Piece s.values.now (items_in s.count s.items.now) s.out.now l.out l.at l.i (item_no l.i s.items.now) c.as_written-item.result
+piece c =
+    let s = c.args in
+    let p = c.requires in
+    record {
+      so_far = c.loop-i.invariant;
+      step = next_item c.loop-i.i s.count s.items.now c.loop-i-test.true;
+      inside = p.inside;
+      fits = p.room;
+      is_piece = c.as_written-item.ensures;
+    }
+
+pub slice_bounds-put_item-count : goal.slice_bounds-put_item-count
+slice_bounds-put_item-count c =
+    let r = piece_room (piece (let at : goal.After-as_written-item = search in at)) in
+    omega arith
+
+pub slice_bounds-put_item-start : goal.slice_bounds-put_item-start
+slice_bounds-put_item-start c =
+    let r = piece_room (piece (let at : goal.After-as_written-item = search in at)) in
+    omega arith
+
+pub put_item-requires : goal.put_item-requires
+put_item-requires c =
+    (piece_lent (piece (let at : goal.After-as_written-item = search in at)), piece_inside (piece (let at : goal.After-as_written-item = search in at)))
+
+pub overflow_add-at : goal.overflow_add-at
+overflow_add-at c =
+    let r = piece_room (piece (let at : goal.After-as_written-item = search in at)) in
+    let m = c.room-at.ensures.is in
+    omega arith
+
+pub loop-i-preserved : goal.loop-i-preserved
+loop-i-preserved c =
+    lay_more (piece (let at : goal.After-as_written-item = search in at)) c.put_item.new.out c.room-at.result c.put_item.ensures c.room-at.ensures.is
+
+pub shape_of-out : goal.shape_of-out
+shape_of-out c =
+    c.loop-i.invariant.same
+
+pub returns : goal.returns
+returns c =
+    let s = c.args in
+    lay_end c.loop-i.invariant (no_item c.loop-i.i s.count s.items.now c.loop-i-test.false) c.requires.inside
