@@ -26,4 +26,4 @@ list-count-requires c =
 pub returns : goal.returns
 returns c =
     let s = c.args in
-    read_laid s.bytes.now s.places.now c.if-places.false c.if-bytes-gt-MESSAGE_MOST.false c.list-count.result c.list-count.new.1.0 c.list-count.ensures
+    read_laid s.bytes.now s.places.now c.if-places.false c.if-bytes-gt-MESSAGE_MOST.false c.list-count.result c.list-count.new.places c.list-count.ensures

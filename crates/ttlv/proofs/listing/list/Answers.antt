@@ -93,8 +93,8 @@ slice_bounds-put-count-in-Structure c =
     let r = turn_room (turn) (omega arith) in
     omega arith
 
-pub slice-bounds-put-start-2 : goal.slice-bounds-put-start-2
-slice-bounds-put-start-2 c =
+pub slice_bounds-put-start-in-Structure : goal.slice_bounds-put-start-in-Structure
+slice_bounds-put-start-in-Structure c =
     let turn : (let s = c.args in
     let l = c.loop-levels in
     Turn s.bytes.now s.places.now l.places l.ends l.levels l.at l.count) = record { good = c.requires; so_far = c.loop-levels.invariant; some_level = c.loop-levels-test.true; some_left = c.if-at-end.false } in
