@@ -1,4 +1,6 @@
 // The profile of a media key's import: what a KMIP message brings to a slot. The rules are in `rules` specs/Kmip.antt.
+#![tactic(auto)]
+
 ghost use Rattle.std.specs.Prelude.{◌≡◌};
 ghost use Rattle.kmip.specs.Reading.{read_message};
 ghost use Rattle.kmip.specs.Writing.{write_message};
