@@ -45,7 +45,7 @@ loop-at-preserved c =
       passed_more d end at c.requires.1 c.loop-at-test.true i.0.low reach i.0,
       (
         seen tper_code c.loop-at.tper i.1.0,
-        seen key_per_io_code c.loop-at.key-per-io i.1.1,
+        seen key_per_io_code c.loop-at.key_per_io i.1.1,
       ),
     )
 
@@ -57,6 +57,6 @@ returns c =
       all_passed d c.args.end c.loop-at.at c.requires.1 is i.0,
       (
         all_seen d c.args.end c.loop-at.at c.requires.1 is tper_code c.loop-at.tper i.1.0,
-        all_seen d c.args.end c.loop-at.at c.requires.1 is key_per_io_code c.loop-at.key-per-io i.1.1,
+        all_seen d c.args.end c.loop-at.at c.requires.1 is key_per_io_code c.loop-at.key_per_io i.1.1,
       ),
     )

@@ -11,7 +11,7 @@ use Rattle.discovery.proofs.reading.feature_end.Goals as goal
 
 pub returns-then-at-eq0 : goal.returns-then-at-eq0
 unfolding end_from
-returns-then-at-eq0 c =rw (eq-eqb c.args.at 0 c.if-at-eq0.true)
+returns-then-at-eq0 c = rw (eq-eqb c.args.at 0 c.if-at-eq0.true)
 
 pub overflow_add-result : goal.overflow_add-result
 overflow_add-result c =

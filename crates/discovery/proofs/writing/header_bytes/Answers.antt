@@ -10,8 +10,8 @@ use Rattle.rules.specs.Numbers.{vendor_specific_size}
 use Rattle.rules.specs.Discovery.{header_bytes}
 use Rattle.discovery.proofs.writing.header_bytes.Goals as goal
 
-pub slice_bounds-bytes-end : goal.slice_bounds-bytes-end
-slice_bounds-bytes-end c =rw c.copy.ensures (omega arith)
+pub slice_bounds-bytes-end-2 : goal.slice_bounds-bytes-end-2
+slice_bounds-bytes-end-2 c = rw c.copy.ensures (omega arith)
 
 pub returns : goal.returns
 unfolding header_bytes zeros
