@@ -1,4 +1,5 @@
-// The drive for callers in C: the state as one byte image that the caller holds. include/tuffaleen.h declares this.
+// The drive for callers in C: the state as one byte image that the caller holds. include/tuffaleen.h declares this, and crates/tuffaleen_archive
+// exports it.
 #![tactic(auto)]
 
 ghost use Rattle.std.specs.Prelude.{◌≡◌, drop};
@@ -18,8 +19,7 @@ use aes::SCHEDULE;
 use rules::{Answer, KEK_SIZE, Refusal, WRAPPED_SIZE};
 
 // A fresh drive with this key-encryption key, in an image of the right length.
-#[unsafe(no_mangle)]
-pub extern "C" fn tuffaleen_start(image: &mut [u8], marks: &mut [u8], kek: &[u8; KEK_SIZE]) -> u16
+pub fn tuffaleen_start(image: &mut [u8], marks: &mut [u8], kek: &[u8; KEK_SIZE]) -> u16
     ensures { record { number = result; image = image.new; marks = marks.new }
         ≡ c_start kek.now image.old marks.old }
 {
@@ -33,8 +33,7 @@ pub extern "C" fn tuffaleen_start(image: &mut [u8], marks: &mut [u8], kek: &[u8;
 }
 
 // One line.
-#[unsafe(no_mangle)]
-pub extern "C" fn tuffaleen_line(
+pub fn tuffaleen_line(
     image: &mut [u8],
     marks: &mut [u8],
     line: &[u8],
@@ -56,8 +55,7 @@ pub extern "C" fn tuffaleen_line(
 }
 
 // A whole session.
-#[unsafe(no_mangle)]
-pub extern "C" fn tuffaleen_session(
+pub fn tuffaleen_session(
     image: &mut [u8],
     marks: &mut [u8],
     text: &[u8],
@@ -88,8 +86,7 @@ pub extern "C" fn tuffaleen_session(
 }
 
 // For a host: what stands in a discovery response.
-#[unsafe(no_mangle)]
-pub extern "C" fn tuffaleen_discovery(bytes: &[u8], fields: &mut [u32]) -> u16
+pub fn tuffaleen_discovery(bytes: &[u8], fields: &mut [u32]) -> u16
     ensures { record { number = result; fields = fields.new } ≡ c_discovery bytes.now fields.old }
 {
     if fields.len() < host::FIELDS_SIZE {
@@ -108,8 +105,7 @@ pub extern "C" fn tuffaleen_discovery(bytes: &[u8], fields: &mut [u32]) -> u16
 }
 
 // For the key office: the message that brings a key to a slot.
-#[unsafe(no_mangle)]
-pub extern "C" fn tuffaleen_message(
+pub fn tuffaleen_message(
     namespace: u8,
     tag: u16,
     uid: &[u8],
@@ -127,8 +123,7 @@ pub extern "C" fn tuffaleen_message(
 
 // For the office that fills a courier's case: the key in the last 32 bytes, wrapped. The round keys go through words of the caller's: of words
 // that were local here the wipe would not be in the object code.
-#[unsafe(no_mangle)]
-pub extern "C" fn tuffaleen_wrap(
+pub fn tuffaleen_wrap(
     kek: &[u8; KEK_SIZE],
     bytes: &mut [u8; WRAPPED_SIZE],
     words: &mut [u32; SCHEDULE],
@@ -139,8 +134,7 @@ pub extern "C" fn tuffaleen_wrap(
 }
 
 // And for whoever opens it.
-#[unsafe(no_mangle)]
-pub extern "C" fn tuffaleen_unwrap(
+pub fn tuffaleen_unwrap(
     kek: &[u8; KEK_SIZE],
     bytes: &mut [u8; WRAPPED_SIZE],
     words: &mut [u32; SCHEDULE],
