@@ -1,6 +1,8 @@
 // AES-256 (FIPS 197) on one block, a column at a time: the substitution and the mixing of a byte are one look-up in a table of words. A
 // constant array is made anew wherever it is named, so that whoever does many blocks makes the tables once and lends them; a contract then
 // says what is done with whatever is lent. A look-up's time may depend on the byte (docs/KEYWRAP.md).
+#![tactic(auto)]
+
 ghost use Rattle.std.specs.Prelude.{◌≡◌, cond, eqb, length, ◌+◌};
 ghost use Rattle.cells.specs.Cells.{within, write, zeros};
 ghost use Rattle.rules.specs.Fields.{four_bytes};

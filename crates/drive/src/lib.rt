@@ -180,14 +180,14 @@ pub fn answer_session(
     text: &[u8],
     out: &mut [u8],
 ) -> SessionReply
-    ensures* { λ r. ⌜ record {
-      result = r.result;
-      state = state r.registers keys.new marks.new;
-      lines = r.lines;
-      bytes = r.bytes;
+    ensures { record {
+      result = result.result;
+      state = state result.registers keys.new marks.new;
+      lines = result.lines;
+      bytes = result.bytes;
       out = out.new;
     }
-        ≡ session (state registers keys.old marks.old) text.now out.old ⌝ }
+        ≡ session (state registers keys.old marks.old) text.now out.old }
 {
     let short = lines::need_more_than(text, out.len());
     match admit::admit(short, registers, keys, marks) {

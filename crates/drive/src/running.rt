@@ -20,14 +20,14 @@ pub(crate) fn run(
     out: &mut [u8],
 ) -> SessionReply
     requires { Ready registers keys.old marks.old × (room_for_all (lines_of text.now) ≤ length out.old) }
-    ensures* { λ r. ⌜ record {
-      result = r.result;
-      state = state r.registers keys.new marks.new;
-      lines = r.lines;
-      bytes = r.bytes;
+    ensures { record {
+      result = result.result;
+      state = state result.registers keys.new marks.new;
+      lines = result.lines;
+      bytes = result.bytes;
       out = out.new;
     }
-        ≡ all_answered (state registers keys.old marks.old) text.now out.old ⌝ }
+        ≡ all_answered (state registers keys.old marks.old) text.now out.old }
 {
     let mut frame = [0u8; FRAME_MOST];
     let mut brought = [0u8; BROUGHT_MOST];

@@ -9,7 +9,7 @@ use lib.Dec.{eqb}
 use borrow.Author.Tests.{eqb-true}
 use Rattle.cells.specs.Predicates.{same}
 use Rattle.rules.specs.Ttlv.{Items, end, value, structure, Structure, Enumeration, Text}
-use Rattle.rules.specs.Kmip.{has, ◌isA◌with◌, ◌holds◌, is, attributes, AttributeName, CryptographicParameters, KeyRoleType, DEK}
+use Rattle.rules.specs.Kmip.{has, ◌is_a◌with◌, ◌holds◌, is, attributes, AttributeName, CryptographicParameters, KeyRoleType, DEK}
 use Rattle.rules.specs.Kmip.{from, lacks, in_order, value_then, vendored, each_vendored, named, namespace_name, tag_name, Attribute}
 use Rattle.kmip.specs.declared.Member.{Member}
 use Rattle.kmip.specs.declared.Seen.{Seen}

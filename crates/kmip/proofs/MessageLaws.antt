@@ -8,7 +8,7 @@ use native.Mathlib.Omega.{arith}
 use Rattle.cells.proofs.PredicatesLaws.{and_left, and_right}
 use Rattle.rules.specs.Slots.{Contents}
 use Rattle.rules.specs.Ttlv.{Items, Structure, Enumeration, Text}
-use Rattle.rules.specs.Kmip.{Want, from, behind_of, members_of, bytes_of, in_order, has, ◌isA◌with◌, ◌holds◌, is, any, value_then, structure_then}
+use Rattle.rules.specs.Kmip.{Want, from, behind_of, members_of, bytes_of, in_order, has, ◌is_a◌with◌, ◌holds◌, is, any, value_then, structure_then}
 use Rattle.rules.specs.Kmip.{attributes, key_block, request_payload, aes256, parameters_in, block_in, payload_good, brought_by, a_symmetric_key}
 use Rattle.rules.specs.Kmip.{Attributes, CryptographicParameters, KeyBlock, KeyMaterial, KeyValue, ObjectType, SymmetricKey, UniqueIdentifier}
 use Rattle.kmip.specs.declared.Member.{Member}

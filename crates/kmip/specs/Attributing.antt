@@ -3,7 +3,7 @@
 use Rattle.std.specs.Prelude.{Bool, not, ◌&&◌, ◌||◌, ℕ}
 use Rattle.cells.specs.Predicates.{same}
 use Rattle.rules.specs.Ttlv.{Items, Integer, Text}
-use Rattle.rules.specs.Kmip.{has, ◌isA◌with◌, is, vendored, each_vendored, named, namespace_name, tag_name, AttributeName, AttributeValue}
+use Rattle.rules.specs.Kmip.{has, ◌is_a◌with◌, is, vendored, each_vendored, named, namespace_name, tag_name, AttributeName, AttributeValue}
 use Rattle.kmip.specs.declared.Seen.{Seen}
 
 abbrev pub is_namespace : Items → Bool

@@ -1,7 +1,7 @@
 // Attributes: in any order. Every Attribute is the vendor's; the first named NamespaceID and the first named KeyTag have to be the slot's.
 ghost use Rattle.std.specs.Prelude.{◌≡◌, true, false};
 ghost use Rattle.rules.specs.Ttlv.{Items, Integer, Enumeration};
-ghost use Rattle.rules.specs.Kmip.{from, has, members_of, ◌isA◌with◌, ◌holds◌, is, vendored as isVendored, attributes as attributesGood};
+ghost use Rattle.rules.specs.Kmip.{from, has, members_of, ◌is_a◌with◌, ◌holds◌, is, vendored as isVendored, attributes as attributesGood};
 ghost use Rattle.rules.specs.Kmip.{AttributeValue, CryptographicParameters, KeyRoleType, DEK};
 ghost use Rattle.kmip.specs.Runs.{Runs};
 ghost use Rattle.kmip.specs.Attributing.{is_namespace, is_tag, attributed, others_good};

@@ -2,7 +2,7 @@
 ghost use Rattle.std.specs.Prelude.{◌≡◌, true, ◌⊎◌, length, eqb};
 ghost use Rattle.rules.specs.Numbers.{key_size};
 ghost use Rattle.rules.specs.Ttlv.{Items, Integer, Enumeration, ByteString};
-ghost use Rattle.rules.specs.Kmip.{from, has, members_of, bytes_of, ◌isA◌with◌, ◌holds◌, key_block as keyBlockGood, stands_in as isStanding, aes256};
+ghost use Rattle.rules.specs.Kmip.{from, has, members_of, bytes_of, ◌is_a◌with◌, ◌holds◌, key_block as keyBlockGood, stands_in as isStanding, aes256};
 ghost use Rattle.rules.specs.Kmip.{KeyBlock, KeyMaterial, KeyValue};
 ghost use Rattle.kmip.specs.Runs.{Runs, KeyStands};
 

@@ -1,4 +1,6 @@
 // The profile of a media key's import: what a KMIP message brings to a slot. The rules are in `rules` specs/Kmip.antt.
+#![tactic(auto)]
+
 ghost use Rattle.std.specs.Prelude.{◌≡◌};
 ghost use Rattle.kmip.specs.Reading.{read_message};
 ghost use Rattle.kmip.specs.Writing.{write_message};
@@ -89,7 +91,7 @@ pub enum MessageWritten {
 // The KeyUID and behind it the key that a message brings to a namespace and a tag, at the front of the output. Where it brings none the
 // output stays.
 pub fn read(bytes: &[u8], ns: usize, tag: usize, out: &mut [u8]) -> MessageRead
-    ensures* { λ r. ⌜ record { result = r; out = out.new } ≡ read_message ns tag bytes.now out.old ⌝ }
+    ensures { record { result = result; out = out.new } ≡ read_message ns tag bytes.now out.old }
 {
     if out.len() < UID_MOST + KEY_SIZE {
         return MessageRead::NoRoom;
@@ -115,7 +117,7 @@ pub fn read(bytes: &[u8], ns: usize, tag: usize, out: &mut [u8]) -> MessageRead
 // The message of a load of this KeyUID and key to a namespace and a tag, at the front of the output. What is refused leaves the output as
 // it was.
 pub fn write(ns: u8, tag: u16, uid: &[u8], key: &[u8], out: &mut [u8]) -> MessageWritten
-    ensures* { λ r. ⌜ record { result = r; out = out.new } ≡ write_message ns tag uid.now key.now out.old ⌝ }
+    ensures { record { result = result; out = out.new } ≡ write_message ns tag uid.now key.now out.old }
 {
     if out.len() < MESSAGE_ROOM {
         return MessageWritten::NoRoom;

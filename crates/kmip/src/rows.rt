@@ -3,7 +3,7 @@
 ghost use Rattle.std.specs.Prelude.{◌≡◌, ◌⊎◌};
 ghost use Rattle.cells.specs.Predicates.{same};
 ghost use Rattle.rules.specs.Ttlv.{Items, Structure, Integer, Enumeration, Text};
-ghost use Rattle.rules.specs.Kmip.{from, value_then, structure_then, in_order, has, ◌isA◌with◌, is, any, two_or_more, protocol_version, request_header};
+ghost use Rattle.rules.specs.Kmip.{from, value_then, structure_then, in_order, has, ◌is_a◌with◌, is, any, two_or_more, protocol_version, request_header};
 ghost use Rattle.rules.specs.Kmip.{ProtocolVersion, ProtocolVersionMajor};
 ghost use Rattle.kmip.specs.Runs.{Runs, Stepped};
 

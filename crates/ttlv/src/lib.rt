@@ -138,7 +138,7 @@ pub fn sound(bytes: &[u8]) -> bool
 
 // The items of the bytes as a list, laid at the front of the places. What is refused leaves them as they were.
 pub fn read(bytes: &[u8], places: &mut [u32]) -> ListRead
-    ensures* { λ r. ⌜ record { result = r; places = places.new } ≡ read_list bytes.now places.old ⌝ }
+    ensures { record { result = result; places = places.new } ≡ read_list bytes.now places.old }
 {
     if places.len() < ITEM_PLACES * ITEMS_MOST {
         return ListRead::NoPlaces;
@@ -156,7 +156,7 @@ pub fn read(bytes: &[u8], places: &mut [u32]) -> ListRead
 // The encoding of the list of the first `count` items, whose values stand among `values`, at the front of the output. What is refused
 // leaves the output as it was.
 pub fn write(items: &[u32], count: usize, values: &[u8], out: &mut [u8]) -> Written
-    ensures* { λ r. ⌜ record { result = r; out = out.new } ≡ write_list items.now count values.now out.old ⌝ }
+    ensures { record { result = result; out = out.new } ≡ write_list items.now count values.now out.old }
 {
     if count > ITEMS_MOST {
         return Written::NoList;

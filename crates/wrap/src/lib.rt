@@ -1,4 +1,6 @@
 // AES key wrap (RFC 3394) of keys of 32 bytes under keys of 32 bytes, in place. The round keys go through words that are lent, and wiped.
+#![tactic(auto)]
+
 ghost use Rattle.std.specs.Prelude.{◌≡◌, ◌&&◌, ◌++◌, eqb, length, drop};
 ghost use Rattle.cells.specs.Cells.{zeros};
 ghost use Rattle.rules.specs.Numbers.{kek_size, wrapped_size};

@@ -6,4 +6,4 @@ use Rattle.discovery.proofs.own_fields.Goals as goal
 pub returns : goal.returns
 unfolding own_fields
 returns c =
-    rw (c.header-header.ensures, c.tper-tper.ensures, c.«key-per-io».ensures)
+    rw (c.header-header.ensures, c.tper-tper.ensures, c.key_per_io-key_per_io.ensures)

@@ -12,25 +12,6 @@ use Rattle.discovery.specs.declared.Walked.TheVariants.{Places, RunsPast}
 use Rattle.discovery.proofs.VerdictLaws.{lies_within, too_short, ends_in_header, ends_past, runs_past, found_at}
 use Rattle.discovery.proofs.read.Goals as goal
 
--- `discovery::read` meets its contract: the four tests in their order, then what the walk found.
--- Assumes nothing.
--- the end that was computed is the header's
-ends : (e : tie.Else3) → let s : tie.Start = search in
-    (header_size ≤ end_of s.args.bytes.now) × (end_of s.args.bytes.now ≤ length s.args.bytes.now)
-ends e =
-    let w : tie.After-dword = search in
-    let f : tie.Else2 = search in
-    (omega (arith, w.dword.ensures), omega (arith, w.dword.ensures))
-
--- what the walk told, up to that end
-told : (w : tie.After-walk) (r : Walked) → w.walk.result ≡ r → let s : tie.Start = search in
-    WalkedTo s.args.bytes.now (end_of s.args.bytes.now) r
-told w r is =
-    let q : tie.After-dword = search in
-    let s : tie.Start = search in
-    subst (λ n. WalkedTo s.args.bytes.now (length_size + n) r) q.dword.ensures
-    (subst (λ v. WalkedTo s.args.bytes.now (length_size + q.dword.result) v) is w.walk.ensures)
-
 pub returns-then-bytes-lt-HEADER_SIZE : goal.returns-then-bytes-lt-HEADER_SIZE
 returns-then-bytes-lt-HEADER_SIZE c =
     c.nothing_found.ensures ∙ too_short c.args.bytes.now c.if-bytes-lt-HEADER_SIZE.true
@@ -46,22 +27,31 @@ returns-then-bytes-end c =
 
 pub found-requires : goal.found-requires
 found-requires c =
+    let ends : ((header_size ≤ end_of c.args.bytes.now) × (end_of c.args.bytes.now ≤ length c.args.bytes.now)) = (omega (arith, c.dword.ensures), omega (arith, c.dword.ensures)) in
+    let told : ((r : Walked) → c.walk.result ≡ r → WalkedTo c.args.bytes.now (end_of c.args.bytes.now) r) = λ r is. subst (λ n. WalkedTo c.args.bytes.now (length_size + n) r) c.dword.ensures
+    (subst (λ v. WalkedTo c.args.bytes.now (length_size + c.dword.result) v) is c.walk.ensures) in
     let d = c.args.bytes.now in
-    let found = told c (Places c.tper-1.given.0.0 c.tper-1.given.0.1.0) c.tper-1.given.1 in (
+    let found = told (Places c.in-Places.tper c.in-Places.key_per_io) c.in-Places.is in (
       omega arith,
       (
-        lies_within d (end_of d) c.tper-1.given.0.0 (ends c).1 found.1.0.lies,
-        lies_within d (end_of d) c.tper-1.given.0.1.0 (ends c).1 found.1.1.lies,
+        lies_within d (end_of d) c.in-Places.tper (ends).1 found.1.0.lies,
+        lies_within d (end_of d) c.in-Places.key_per_io (ends).1 found.1.1.lies,
       ),
     )
 
 pub returns-in-Places : goal.returns-in-Places
 returns-in-Places c =
-    let found = told c (Places c.tper-1.given.0.0 c.tper-1.given.0.1.0) c.tper-1.given.1 in
+    let ends : ((header_size ≤ end_of c.args.bytes.now) × (end_of c.args.bytes.now ≤ length c.args.bytes.now)) = (omega (arith, c.dword.ensures), omega (arith, c.dword.ensures)) in
+    let told : ((r : Walked) → c.walk.result ≡ r → WalkedTo c.args.bytes.now (end_of c.args.bytes.now) r) = λ r is. subst (λ n. WalkedTo c.args.bytes.now (length_size + n) r) c.dword.ensures
+    (subst (λ v. WalkedTo c.args.bytes.now (length_size + c.dword.result) v) is c.walk.ensures) in
+    let found = told (Places c.in-Places.tper c.in-Places.key_per_io) c.in-Places.is in
     c.found.ensures
-    ∙ found_at c.args.bytes.now (omega arith) (ends c).0 (ends c).1 c.tper-1.given.0.0 c.tper-1.given.0.1.0 found
+    ∙ found_at c.args.bytes.now (omega arith) (ends).0 (ends).1 c.in-Places.tper c.in-Places.key_per_io found
 
 pub returns-in-RunsPast : goal.returns-in-RunsPast
 returns-in-RunsPast c =
+    let ends : ((header_size ≤ end_of c.args.bytes.now) × (end_of c.args.bytes.now ≤ length c.args.bytes.now)) = (omega (arith, c.dword.ensures), omega (arith, c.dword.ensures)) in
+    let told : ((r : Walked) → c.walk.result ≡ r → WalkedTo c.args.bytes.now (end_of c.args.bytes.now) r) = λ r is. subst (λ n. WalkedTo c.args.bytes.now (length_size + n) r) c.dword.ensures
+    (subst (λ v. WalkedTo c.args.bytes.now (length_size + c.dword.result) v) is c.walk.ensures) in
     c.nothing_found-in-RunsPast.ensures
-    ∙ runs_past c.args.bytes.now (omega arith) (ends c).0 (ends c).1 (told c RunsPast c.enum_told-1.given.1)
+    ∙ runs_past c.args.bytes.now (omega arith) (ends).0 (ends).1 (told RunsPast c.in-RunsPast.is)

@@ -19,4 +19,4 @@ returns c =
     let s = c.args in
     let l = c.if-at-end.false in
     let m = c.if-end-bytes.false in
-    sym (item_there s.bytes.now s.at s.end l m ∙ from_places s.bytes.now s.at s.end l m _ c.Front-at.ensures)
+    sym (item_there s.bytes.now s.at s.end l m ∙ from_places s.bytes.now s.at s.end l m _ c.front_at.ensures)

@@ -1,6 +1,5 @@
 -- `read` meets its contract: each way out is an answer of `read_list`.
 -- Assumes nothing.
-use borrow.Author.Tests.{not-true, not-false}
 use mathlib.Core.Path.{sym, ◌∙◌}
 use Rattle.ttlv.proofs.ListingLaws.{read_few, read_long, read_unsound, read_laid}
 use Rattle.ttlv.proofs.read.Goals as goal
@@ -18,13 +17,13 @@ returns-then-bytes-gt-MESSAGE_MOST c =
 pub returns-then-not-sound : goal.returns-then-not-sound
 returns-then-not-sound c =
     let s = c.args in
-    read_unsound s.bytes.now s.places.now c.if-places.false c.if-bytes-gt-MESSAGE_MOST.false (sym c.sound.ensures ∙ not-true _ c.if-not-sound.true)
+    read_unsound s.bytes.now s.places.now c.if-places.false c.if-bytes-gt-MESSAGE_MOST.false (sym c.sound.ensures ∙ c.if-not-sound.true)
 
 pub list-count-requires : goal.list-count-requires
 list-count-requires c =
-    record { sound = sym c.sound.ensures ∙ not-false _ c.if-not-sound.false; short = c.if-bytes-gt-MESSAGE_MOST.false; enough = c.if-places.false }
+    record { sound = sym c.sound.ensures ∙ c.if-not-sound.false; short = c.if-bytes-gt-MESSAGE_MOST.false; enough = c.if-places.false }
 
 pub returns : goal.returns
 returns c =
     let s = c.args in
-    read_laid s.bytes.now s.places.now c.if-places.false c.if-bytes-gt-MESSAGE_MOST.false c.list-count.result c.list-count.new.1.0 c.list-count.ensures
+    read_laid s.bytes.now s.places.now c.if-places.false c.if-bytes-gt-MESSAGE_MOST.false c.list-count.result c.list-count.new.places c.list-count.ensures

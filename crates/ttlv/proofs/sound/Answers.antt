@@ -2,8 +2,10 @@
 -- Assumes nothing.
 use native.Mathlib.Omega.{arith}
 use mathlib.Core.Path.{refl, sym}
+use mathlib.Core.List.{[]}
 use mathlib.Core.Option.{none, some}
 use Prim.Native.Nat.{◌-◌}
+use lib.ListN.{length}
 use Rattle.ttlv.proofs.MidLaws.{mid_start, mid_end, mid_close, mid_deep, mid_broken, mid_value, mid_open, at_end, end_inside, sound_if}
 use Rattle.ttlv.proofs.sound.Goals as goal
 
@@ -38,7 +40,7 @@ returns-in-NoItem c =
     let l = c.loop-levels in
     let m = l.invariant in
     let s = c.args in
-    let found = rw c.in-NoItem.is at c.Front-at.ensures in
+    let found = rw c.in-NoItem.is at c.front_at-found.ensures in
     sym (sound_if s.bytes.now none
     (mid_broken s.bytes.now l.ends l.levels l.at m.0 m.1 c.loop-levels-test.true c.if-at-end.false c.if-levels-gt-DEEPEST.false found))
 
@@ -46,7 +48,7 @@ pub loop-levels-smaller-in-Value : goal.loop-levels-smaller-in-Value
 loop-levels-smaller-in-Value c =
     let l = c.loop-levels in
     let m = l.invariant in
-    let found = rw c.in-Value.is at c.Front-at.ensures in
+    let found = rw c.in-Value.is at c.front_at-found.ensures in
     let i = found.inside in
     let e = end_inside c.args.bytes.now l.ends l.levels l.at m.0 m.1 c.loop-levels-test.true in
     omega arith
@@ -55,18 +57,17 @@ pub loop-levels-preserved-in-Value : goal.loop-levels-preserved-in-Value
 loop-levels-preserved-in-Value c =
     let l = c.loop-levels in
     let m = l.invariant in
-    let v = c.found-1.given in
-    let found = rw v.1 at c.Front-at.ensures in (
+    let found = rw c.in-Value.is at c.front_at-found.ensures in (
       _,
       mid_value c.args.bytes.now l.ends l.levels l.at m.0 m.1 c.loop-levels-test.true c.if-at-end.false c.if-levels-gt-DEEPEST.false
-          v.0.0 v.0.1.0 v.0.1.1.0 v.0.1.1.1.0 found,
+          c.in-Value.tag c.in-Value.kind c.in-Value.length c.in-Value.next found,
     )
 
 pub overflow_add-ends : goal.overflow_add-ends
 overflow_add-ends c =
     let l = c.loop-levels in
     let m = l.invariant in
-    let found = rw c.in-Structure.is at c.Front-at.ensures in
+    let found = rw c.in-Structure.is at c.front_at-found.ensures in
     let i = found.inside in
     let e = end_inside c.args.bytes.now l.ends l.levels l.at m.0 m.1 c.loop-levels-test.true in
     omega arith
@@ -75,7 +76,7 @@ pub loop-levels-smaller : goal.loop-levels-smaller
 loop-levels-smaller c =
     let l = c.loop-levels in
     let m = l.invariant in
-    let found = rw c.in-Structure.is at c.Front-at.ensures in
+    let found = rw c.in-Structure.is at c.front_at-found.ensures in
     let i = found.inside in
     let e = end_inside c.args.bytes.now l.ends l.levels l.at m.0 m.1 c.loop-levels-test.true in
     omega arith
@@ -84,11 +85,10 @@ pub loop-levels-preserved : goal.loop-levels-preserved
 loop-levels-preserved c =
     let l = c.loop-levels in
     let m = l.invariant in
-    let v = c.found-in-Structure-1.given in
-    let found = rw v.1 at c.Front-at.ensures in (
+    let found = rw c.in-Structure.is at c.front_at-found.ensures in (
       _,
       mid_open c.args.bytes.now l.ends l.levels l.at m.0 m.1 c.loop-levels-test.true c.if-at-end.false c.if-levels-gt-DEEPEST.false
-          v.0.0 v.0.1.0 found,
+          c.in-Structure.tag c.in-Structure.length found,
     )
 
 pub returns : goal.returns

@@ -1,6 +1,5 @@
 -- `write` meets its contract: each way out is an answer of `write_list`.
 -- Assumes nothing.
-use borrow.Author.Tests.{not-true, not-false}
 use native.Mathlib.Omega.{arith}
 use mathlib.Core.Path.{◌≡◌, sym, ◌∙◌}
 use mathlib.Core.Bool.{true}
@@ -11,23 +10,6 @@ use Rattle.ttlv.specs.Writing.{good_from, room_for}
 use Rattle.ttlv.proofs.GoodLaws.{good_from_lem, good_inside}
 use Rattle.ttlv.proofs.WroteLaws.{wrote_many, wrote_absent, wrote_short, wrote_bad, wrote_long, wrote_all}
 use Rattle.ttlv.proofs.write.Goals as goal
-
--- `write` meets its contract: each way out is an answer of `write_list`.
--- Assumes nothing.
--- the items fit into the output
-room : (c : goal.Else-out-n)
-    → let s = c.args in
-    room_for (items_in s.count s.items.now) ≤ length s.out.now
-room c =
-    let e = c.total_room-n.ensures in
-    omega arith
-
--- each may stand where it stands
-good : (c : goal.Else-not-good_list)
-    → let s = c.args in
-    good_from (length s.values.now) 1 (items_in s.count s.items.now) ≡ true
-good c =
-    sym c.good_list.ensures ∙ not-false _ c.if-not-good_list.false
 
 pub returns-then-count-gt-ITEMS_MOST : goal.returns-then-count-gt-ITEMS_MOST
 returns-then-count-gt-ITEMS_MOST c =
@@ -47,31 +29,49 @@ returns-then-out-n c =
 
 pub returns-then-not-good_list : goal.returns-then-not-good_list
 returns-then-not-good_list c =
+    let room : (let s = c.args in
+    room_for (items_in s.count s.items.now) ≤ length s.out.now) = let e = c.total_room-n.ensures in
+    omega arith in
     let s = c.args in
-    let no = sym c.good_list.ensures ∙ not-true _ c.if-not-good_list.true in
-    wrote_bad s.items.now s.count s.values.now s.out.now c.if-count-gt-ITEMS_MOST.false c.if-items-count.false (room (let at : goal.Else-out-n = search in at)) no
+    let no = sym c.good_list.ensures ∙ c.if-not-good_list.true in
+    wrote_bad s.items.now s.count s.values.now s.out.now c.if-count-gt-ITEMS_MOST.false c.if-items-count.false (room) no
 
 pub returns-then-n-ge-LENGTHS : goal.returns-then-n-ge-LENGTHS
 returns-then-n-ge-LENGTHS c =
+    let room : (let s = c.args in
+    room_for (items_in s.count s.items.now) ≤ length s.out.now) = let e = c.total_room-n.ensures in
+    omega arith in
+    let good : (let s = c.args in
+    good_from (length s.values.now) 1 (items_in s.count s.items.now) ≡ true) = sym c.good_list.ensures ∙ c.if-not-good_list.false in
     let s = c.args in
     let n = c.total_room-n.ensures in
-    wrote_long s.items.now s.count s.values.now s.out.now c.if-count-gt-ITEMS_MOST.false c.if-items-count.false (room (let at : goal.Else-out-n = search in at)) (good (let at : goal.Else-not-good_list = search in at)) (omega arith)
+    wrote_long s.items.now s.count s.values.now s.out.now c.if-count-gt-ITEMS_MOST.false c.if-items-count.false (room) (good) (omega arith)
 
 pub lay-n-requires : goal.lay-n-requires
 lay-n-requires c =
+    let room : (let s = c.args in
+    room_for (items_in s.count s.items.now) ≤ length s.out.now) = let e = c.total_room-n.ensures in
+    omega arith in
+    let good : (let s = c.args in
+    good_from (length s.values.now) 1 (items_in s.count s.items.now) ≡ true) = sym c.good_list.ensures ∙ c.if-not-good_list.false in
     let s = c.args in
     let n = c.total_room-n.ensures in
     let is = items_in s.count s.items.now in
     record {
       enough = record { few = c.if-count-gt-ITEMS_MOST.false; there = c.if-items-count.false };
-      inside = good_inside s.values.now is (good_from_lem s.values.now 1 is (good (let at : goal.Else-not-good_list = search in at)));
-      room = room (let at : goal.Else-out-n = search in at);
+      inside = good_inside s.values.now is (good_from_lem s.values.now 1 is (good));
+      room = room;
       fits = omega arith;
     }
 
 pub returns : goal.returns
 returns c =
+    let room : (let s = c.args in
+    room_for (items_in s.count s.items.now) ≤ length s.out.now) = let e = c.total_room-n.ensures in
+    omega arith in
+    let good : (let s = c.args in
+    good_from (length s.values.now) 1 (items_in s.count s.items.now) ≡ true) = sym c.good_list.ensures ∙ c.if-not-good_list.false in
     let s = c.args in
     let n = c.total_room-n.ensures in
-    wrote_all s.items.now s.count s.values.now s.out.now c.if-count-gt-ITEMS_MOST.false c.if-items-count.false (room (let at : goal.Else-out-n = search in at)) (good (let at : goal.Else-not-good_list = search in at)) (omega arith)
+    wrote_all s.items.now s.count s.values.now s.out.now c.if-count-gt-ITEMS_MOST.false c.if-items-count.false (room) (good) (omega arith)
     c.lay-n.result c.lay-n.new.out c.lay-n.ensures

@@ -9,19 +9,6 @@ use Rattle.rules.specs.Discovery.{tper_code, key_per_io_code}
 use Rattle.discovery.proofs.WalkingLaws.{none_seen, next_past, next_whole, passed_more, seen_more, all_passed, all_seen}
 use Rattle.discovery.proofs.finding.walk.Goals as goal
 
--- the next feature, where the walk goes on
-whole : (e : tie.Else1 invariant-loop decreases-loop) → let n : tie.After-next-feature invariant-loop decreases-loop = search in
-    let l : tie.At-loop invariant-loop decreases-loop = search in
-    let s : tie.Start invariant-loop decreases-loop = search in
-    (n.next-feature.result ≡ l.loop.at + head_size + byte (l.loop.at + 3) s.args.d.now) × (n.next-feature.result ≤ s.args.end)
-whole e =
-    let n : tie.After-next-feature invariant-loop decreases-loop = search in
-    let t : tie.In-loop invariant-loop decreases-loop = search in
-    let l : tie.At-loop invariant-loop decreases-loop = search in
-    let s : tie.Start invariant-loop decreases-loop = search in
-    next_whole s.args.d.now s.args.end l.loop.at s.pre.1 t.loop-test.taken n.next-feature.result
-    n.next-feature.ensures e.if1.false
-
 pub loop-at-init : goal.loop-at-init
 loop-at-init c =
     let d = c.args.d.now in
@@ -33,25 +20,32 @@ returns-then-next-eq0 c =
     ∙ next_past c.args.d.now c.args.end c.loop-at.at c.requires.1 c.loop-at-test.true (sym c.next_feature-next.ensures ∙ c.if-next-eq0.true)
 
 pub word-code-requires : goal.word-code-requires
-word-code-requires c = omega (arith, (whole c).0, (whole c).1)
+word-code-requires c =
+    let whole : ((c.next_feature-next.result ≡ c.loop-at.at + head_size + byte (c.loop-at.at + 3) c.args.d.now) × (c.next_feature-next.result ≤ c.args.end)) = next_whole c.args.d.now c.args.end c.loop-at.at c.requires.1 c.loop-at-test.true c.next_feature-next.result
+    c.next_feature-next.ensures c.if-next-eq0.false in
+    omega (arith, (whole).0, (whole).1)
 
 pub loop-at-smaller : goal.loop-at-smaller
 loop-at-smaller c =
-    omega (arith, (whole c).0, (whole c).1)
+    let whole : ((c.next_feature-next.result ≡ c.loop-at.at + head_size + byte (c.loop-at.at + 3) c.args.d.now) × (c.next_feature-next.result ≤ c.args.end)) = next_whole c.args.d.now c.args.end c.loop-at.at c.requires.1 c.loop-at-test.true c.next_feature-next.result
+    c.next_feature-next.ensures c.if-next-eq0.false in
+    omega (arith, (whole).0, (whole).1)
 
 pub loop-at-preserved : goal.loop-at-preserved
 loop-at-preserved c =
+    let whole : ((c.next_feature-next.result ≡ c.loop-at.at + head_size + byte (c.loop-at.at + 3) c.args.d.now) × (c.next_feature-next.result ≤ c.args.end)) = next_whole c.args.d.now c.args.end c.loop-at.at c.requires.1 c.loop-at-test.true c.next_feature-next.result
+    c.next_feature-next.ensures c.if-next-eq0.false in
     let d = c.args.d.now in
     let at = c.loop-at.at in
     let end = c.args.end in
     let i = c.loop-at.invariant in
-    let reach : at + head_size + byte (at + 3) d ≤ end = omega (arith, (whole c).0, (whole c).1) in
+    let reach : at + head_size + byte (at + 3) d ≤ end = omega (arith, (whole).0, (whole).1) in
     let seen = seen_more d end at c.requires.1 c.loop-at-test.true i.0.low reach in
-    rw ((whole c).0, c.first_place-tper.ensures, c.first_place-key_per_io.ensures, c.word-code.ensures) (
+    rw ((whole).0, c.first_place-tper.ensures, c.first_place-key_per_io.ensures, c.word-code.ensures) (
       passed_more d end at c.requires.1 c.loop-at-test.true i.0.low reach i.0,
       (
         seen tper_code c.loop-at.tper i.1.0,
-        seen key_per_io_code c.loop-at.key-per-io i.1.1,
+        seen key_per_io_code c.loop-at.key_per_io i.1.1,
       ),
     )
 
@@ -63,6 +57,6 @@ returns c =
       all_passed d c.args.end c.loop-at.at c.requires.1 is i.0,
       (
         all_seen d c.args.end c.loop-at.at c.requires.1 is tper_code c.loop-at.tper i.1.0,
-        all_seen d c.args.end c.loop-at.at c.requires.1 is key_per_io_code c.loop-at.key-per-io i.1.1,
+        all_seen d c.args.end c.loop-at.at c.requires.1 is key_per_io_code c.loop-at.key_per_io i.1.1,
       ),
     )

@@ -9,27 +9,29 @@ use Rattle.rules.specs.Fields.{byte}
 use Rattle.discovery.specs.Walking.{end_from}
 use Rattle.discovery.proofs.reading.feature_end.Goals as goal
 
--- `feature_end` meets its contract: 0 at 0, else behind the bytes that the length counts.
--- Assumes nothing.
--- the feature lies in the data
-lies : (e : tie.Else1) → let s : tie.Start = search in s.args.at + head_size + byte (s.args.at + 3) s.args.d.now ≤ length s.args.d.now
-lies e = let s : tie.Start = search in s.pre (ne_eqb s.args.at 0 e.if1.false)
-
 pub returns-then-at-eq0 : goal.returns-then-at-eq0
 unfolding end_from
-returns-then-at-eq0 c =rw (eq-eqb c.args.at 0 c.if-at-eq0.true)
+returns-then-at-eq0 c = rw (eq-eqb c.args.at 0 c.if-at-eq0.true)
 
 pub overflow_add-result : goal.overflow_add-result
-overflow_add-result c =omega (arith, lies c)
+overflow_add-result c =
+    let lies : (c.args.at + head_size + byte (c.args.at + 3) c.args.d.now ≤ length c.args.d.now) = c.requires (ne_eqb c.args.at 0 c.if-at-eq0.false) in
+    omega (arith, lies)
 
 pub overflow_add-result-2 : goal.overflow_add-result-2
-overflow_add-result-2 c =omega (arith, lies c)
+overflow_add-result-2 c =
+    let lies : (c.args.at + head_size + byte (c.args.at + 3) c.args.d.now ≤ length c.args.d.now) = c.requires (ne_eqb c.args.at 0 c.if-at-eq0.false) in
+    omega (arith, lies)
 
 pub bounds-d-at : goal.bounds-d-at
-bounds-d-at c =omega (arith, lies c)
+bounds-d-at c =
+    let lies : (c.args.at + head_size + byte (c.args.at + 3) c.args.d.now ≤ length c.args.d.now) = c.requires (ne_eqb c.args.at 0 c.if-at-eq0.false) in
+    omega (arith, lies)
 
 pub overflow_add-result-3 : goal.overflow_add-result-3
-overflow_add-result-3 c =omega (arith, lies c)
+overflow_add-result-3 c =
+    let lies : (c.args.at + head_size + byte (c.args.at + 3) c.args.d.now ≤ length c.args.d.now) = c.requires (ne_eqb c.args.at 0 c.if-at-eq0.false) in
+    omega (arith, lies)
 
 pub returns : goal.returns
 unfolding end_from

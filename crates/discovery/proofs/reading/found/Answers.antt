@@ -8,34 +8,35 @@ use Rattle.rules.specs.Discovering.{tper_in, key_per_io_in}
 use Rattle.discovery.proofs.ReadingLaws.{lent_feature, found_ends}
 use Rattle.discovery.proofs.reading.found.Goals as goal
 
--- `found` meets its contract: the header's fields, and the two features where they were found.
--- Assumes nothing.
--- the parts that are lent lie in the data
-tper_ends : (e : tie.After-feature-end) → let s : tie.Start = search in
-    (s.args.t ≤ e.feature-end.result) × (e.feature-end.result ≤ length s.args.d.now)
-tper_ends e = let s : tie.Start = search in rw e.feature-end.ensures (found_ends s.args.t s.args.d.now s.pre.1.0)
-
-key_per_io_ends : (e : tie.After-feature-end2) → let s : tie.Start = search in
-    (s.args.k ≤ e.feature-end2.result) × (e.feature-end2.result ≤ length s.args.d.now)
-key_per_io_ends e = let s : tie.Start = search in rw e.feature-end2.ensures (found_ends s.args.k s.args.d.now s.pre.1.1)
-
 pub slice_bounds-tper_in-count : goal.slice_bounds-tper_in-count
-slice_bounds-tper_in-count c = omega (arith, (tper_ends c).0)
+slice_bounds-tper_in-count c =
+    let tper_ends : ((c.args.t ≤ c.feature_end-tper_end.result) × (c.feature_end-tper_end.result ≤ length c.args.d.now)) = rw c.feature_end-tper_end.ensures (found_ends c.args.t c.args.d.now c.requires.1.0) in
+    omega (arith, (tper_ends).0)
 
-pub slice-bounds-tper-in-start : goal.slice-bounds-tper-in-start
-slice-bounds-tper-in-start c = omega (arith, (tper_ends c).0)
+pub slice_bounds-tper_in-start : goal.slice_bounds-tper_in-start
+slice_bounds-tper_in-start c =
+    let tper_ends : ((c.args.t ≤ c.feature_end-tper_end.result) × (c.feature_end-tper_end.result ≤ length c.args.d.now)) = rw c.feature_end-tper_end.ensures (found_ends c.args.t c.args.d.now c.requires.1.0) in
+    omega (arith, (tper_ends).0)
 
-pub slice-bounds-tper-in-end : goal.slice-bounds-tper-in-end
-slice-bounds-tper-in-end c = omega (arith, (tper_ends c).1)
+pub slice_bounds-tper_in-end : goal.slice_bounds-tper_in-end
+slice_bounds-tper_in-end c =
+    let tper_ends : ((c.args.t ≤ c.feature_end-tper_end.result) × (c.feature_end-tper_end.result ≤ length c.args.d.now)) = rw c.feature_end-tper_end.ensures (found_ends c.args.t c.args.d.now c.requires.1.0) in
+    omega (arith, (tper_ends).1)
 
 pub slice_bounds-key_per_io_in-count : goal.slice_bounds-key_per_io_in-count
-slice_bounds-key_per_io_in-count c = omega (arith, (key_per_io_ends c).0)
+slice_bounds-key_per_io_in-count c =
+    let key_per_io_ends : ((c.args.k ≤ c.feature_end-key_per_io_end.result) × (c.feature_end-key_per_io_end.result ≤ length c.args.d.now)) = rw c.feature_end-key_per_io_end.ensures (found_ends c.args.k c.args.d.now c.requires.1.1) in
+    omega (arith, (key_per_io_ends).0)
 
-pub slice-bounds-key-per-io-in-start : goal.slice-bounds-key-per-io-in-start
-slice-bounds-key-per-io-in-start c = omega (arith, (key_per_io_ends c).0)
+pub slice_bounds-key_per_io_in-start : goal.slice_bounds-key_per_io_in-start
+slice_bounds-key_per_io_in-start c =
+    let key_per_io_ends : ((c.args.k ≤ c.feature_end-key_per_io_end.result) × (c.feature_end-key_per_io_end.result ≤ length c.args.d.now)) = rw c.feature_end-key_per_io_end.ensures (found_ends c.args.k c.args.d.now c.requires.1.1) in
+    omega (arith, (key_per_io_ends).0)
 
-pub slice-bounds-key-per-io-in-end : goal.slice-bounds-key-per-io-in-end
-slice-bounds-key-per-io-in-end c = omega (arith, (key_per_io_ends c).1)
+pub slice_bounds-key_per_io_in-end : goal.slice_bounds-key_per_io_in-end
+slice_bounds-key_per_io_in-end c =
+    let key_per_io_ends : ((c.args.k ≤ c.feature_end-key_per_io_end.result) × (c.feature_end-key_per_io_end.result ≤ length c.args.d.now)) = rw c.feature_end-key_per_io_end.ensures (found_ends c.args.k c.args.d.now c.requires.1.1) in
+    omega (arith, (key_per_io_ends).1)
 
 pub returns : goal.returns
 returns c =

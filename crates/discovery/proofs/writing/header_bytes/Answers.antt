@@ -10,16 +10,11 @@ use Rattle.rules.specs.Numbers.{vendor_specific_size}
 use Rattle.rules.specs.Discovery.{header_bytes}
 use Rattle.discovery.proofs.writing.header_bytes.Goals as goal
 
--- `header_bytes` meets its contract: the numbers at the front, 8 zeros, the vendor's bytes behind them.
--- Assumes nothing.
--- the type says how many bytes the vendor has
-vendor : (s : tie.Start) → length s.args.h.vendor_specific ≡ vendor_specific_size
-vendor s = search rules
-
-pub slice-bounds-bytes-end : goal.slice-bounds-bytes-end
-slice-bounds-bytes-end c =rw c.copy.ensures (omega arith)
+pub slice_bounds-bytes-end-2 : goal.slice_bounds-bytes-end-2
+slice_bounds-bytes-end-2 c = rw c.copy.ensures (omega arith)
 
 pub returns : goal.returns
 unfolding header_bytes zeros
 returns c =
-    rw (c.copy-2.ensures, c.copy.ensures, vendor c, append-nil c.args.h.vendor_specific)
+    let vendor : (length c.args.h.vendor_specific ≡ vendor_specific_size) = search rules in
+    rw (c.copy-2.ensures, c.copy.ensures, vendor, append-nil c.args.h.vendor_specific)

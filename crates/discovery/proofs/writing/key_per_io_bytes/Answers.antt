@@ -5,14 +5,14 @@ use Rattle.cells.specs.Cells.{part, zeros}
 use Rattle.rules.specs.Discovery.{key_per_io_bytes}
 use Rattle.discovery.proofs.writing.key_per_io_bytes.Goals as goal
 
-pub slice-bounds-bytes-end : goal.slice-bounds-bytes-end
+pub slice_bounds-bytes-end-2 : goal.slice_bounds-bytes-end-2
 unfolding key_per_io_bytes part zeros
-slice-bounds-bytes-end c =
+slice_bounds-bytes-end-2 c =
     rw (c.copy.ensures, c.front-front.ensures) (omega arith)
 
-pub slice-bounds-bytes-end-2 : goal.slice-bounds-bytes-end-2
+pub slice_bounds-bytes-end-3 : goal.slice_bounds-bytes-end-3
 unfolding key_per_io_bytes part zeros
-slice-bounds-bytes-end-2 c =
+slice_bounds-bytes-end-3 c =
     rw (c.copy-2.ensures, c.copy.ensures, c.middle-middle.ensures, c.front-front.ensures) (omega arith)
 
 pub returns : goal.returns

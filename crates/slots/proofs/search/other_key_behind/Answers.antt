@@ -17,13 +17,13 @@ other_key_below-requires c = (search rules, omega arith, search rules)
 pub returns-then-other_key_below : goal.returns-then-other_key_below
 returns-then-other_key_below c =
     let h = c.args in
-    let hit = other_next h.t1 h.head.now h.key.now h.keys.now c.loop-i.i (omega arith) (sym c.other_key_below.ensures ∙ c.if-other_key_below.true) in
+    let hit = other_next h.counts h.head.now h.key.now h.keys.now c.loop-i.i (omega arith) (sym c.other_key_below.ensures ∙ c.if-other_key_below.true) in
     sym hit ∙ c.loop-i.invariant.1
 
 pub loop-i-preserved : goal.loop-i-preserved
 loop-i-preserved c =
     let h = c.args in
-    let miss = other_next h.t1 h.head.now h.key.now h.keys.now c.loop-i.i (omega arith) (sym c.other_key_below.ensures ∙ c.if-other_key_below.false) in
+    let miss = other_next h.counts h.head.now h.key.now h.keys.now c.loop-i.i (omega arith) (sym c.other_key_below.ensures ∙ c.if-other_key_below.false) in
     (omega arith, sym miss ∙ c.loop-i.invariant.1)
 
 pub returns : goal.returns

@@ -3,17 +3,13 @@
 use borrow.Author.Rules.{rules}
 use native.Mathlib.Omega.{arith}
 use mathlib.Core.Path.{◌≡◌, refl, sym, ap, ◌∙◌}
-use mathlib.Core.Bool.{Bool, false}
-use mathlib.Core.List.{List}
-use Prim.Native.Nat.{ℕ, ◌+◌, ◌-◌}
+use mathlib.Core.Bool.{false}
+use Prim.Native.Nat.{◌+◌, ◌-◌}
 use Rattle.cells.specs.Predicates.{some_cell}
 use Rattle.cells.proofs.PredicatesLaws.{some_start, some_next, some_hit}
 use Rattle.rules.specs.Numbers.{slot_width}
-use Rattle.slots.specs.Cache.{other_key_behind}
+use Rattle.slots.proofs.search.other_key_run.Invariants.{test}
 use Rattle.slots.proofs.search.other_key_run.Goals as goal
-
-abbrev test : List ℕ → List ℕ → ℕ → List ℕ → Bool
-test head key i c = other_key_behind head key c
 
 pub loop-i-init : goal.loop-i-init
 loop-i-init c = (search rules, search rules, some_start slot_width _ _ _)

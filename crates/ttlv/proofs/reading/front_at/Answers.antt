@@ -1,7 +1,6 @@
 -- `front_at` meets its contract: each way out is a case of the front.
 -- Assumes nothing.
 use native.Mathlib.Omega.{arith}
-use borrow.Author.Tests.{not-true, not-false}
 use mathlib.Core.Path.{◌≡◌, refl, sym, ap, ◌∙◌}
 use mathlib.Core.Bool.{true}
 use Prim.Native.Nat.{◌+◌, ◌-◌, ◌≤◌}
@@ -12,33 +11,6 @@ use Rattle.ttlv.proofs.FrontLaws.{front_short, front_run, front_long, front_open
 use Rattle.ttlv.proofs.FrontLaws.{front_closed, lent_padding}
 use Rattle.ttlv.proofs.reading.front_at.Goals as goal
 
--- `front_at` meets its contract: each way out is a case of the front.
--- Assumes nothing.
--- the front of the run is that of the head which was read
-at_head : (c : goal.After-head_at-head)
-    → let s = c.args in
-    let h = c.head_at-head.result in
-    front (part s.at (s.end - s.at) s.bytes.now)
-    ≡ front_of h.tag h.kind h.length (part (s.at + item_head) (s.end - (s.at + item_head)) s.bytes.now)
-at_head c =
-    let s = c.args in
-    let p = c.requires in
-    front_run s.bytes.now s.at s.end p.0 p.1 (omega arith) c.head_at-head.result c.head_at-head.ensures
-
--- the type is that of a value
-valued : (c : goal.Else-not-is_value) → is_value k.head_at.result.kind k.head_at.result.length ≡ true
-valued c =
-    sym c.is_value.ensures ∙ not-false _ c.if-not-is_value.false
-
--- the padding is zero, or not
-padding : (c : goal.After-all_zero)
-    → let s = c.args in
-    let h = c.head_at-head.result in
-    c.all_zero.result ≡ all_zero (part (s.at + item_head + h.length) (to_eight h.length - h.length) s.bytes.now)
-padding c =
-    let s = c.args in
-    c.all_zero.ensures ∙ ap all_zero (lent_padding (s.at + item_head) c.head_at-head.result.length s.bytes.now)
-
 pub returns-then-end-at-lt-ITEM_HEAD : goal.returns-then-end-at-lt-ITEM_HEAD
 returns-then-end-at-lt-ITEM_HEAD c =
     let s = c.args in
@@ -47,75 +19,122 @@ returns-then-end-at-lt-ITEM_HEAD c =
 
 pub returns-then-length-room : goal.returns-then-length-room
 returns-then-length-room c =
+    let at_head : (let s = c.args in
+    let h = c.head_at-head.result in
+    front (part s.at (s.end - s.at) s.bytes.now)
+    ≡ front_of h.tag h.kind h.length (part (s.at + item_head) (s.end - (s.at + item_head)) s.bytes.now)) = let s = c.args in
+    let p = c.requires in
+    front_run s.bytes.now s.at s.end p.0 p.1 (omega arith) c.head_at-head.result c.head_at-head.ensures in
     let s = c.args in
     let p = c.requires in
     let h = c.head_at-head.result in
     let l : s.at + item_head ≤ s.end = omega arith in
     record {
-      is = at_head (let at : goal.After-head_at-head = search in at) ∙ front_long s.bytes.now (s.at + item_head) s.end l p.1 h.tag h.kind h.length c.if-kind-eq-STRUCTURE.true c.if-length-room.true;
+      is = at_head ∙ front_long s.bytes.now (s.at + item_head) s.end l p.1 h.tag h.kind h.length c.if-kind-eq-STRUCTURE.true c.if-length-room.true;
       inside = tt;
     }
 
 pub returns-then-kind-eq-STRUCTURE : goal.returns-then-kind-eq-STRUCTURE
 returns-then-kind-eq-STRUCTURE c =
+    let at_head : (let s = c.args in
+    let h = c.head_at-head.result in
+    front (part s.at (s.end - s.at) s.bytes.now)
+    ≡ front_of h.tag h.kind h.length (part (s.at + item_head) (s.end - (s.at + item_head)) s.bytes.now)) = let s = c.args in
+    let p = c.requires in
+    front_run s.bytes.now s.at s.end p.0 p.1 (omega arith) c.head_at-head.result c.head_at-head.ensures in
     let s = c.args in
     let p = c.requires in
     let h = c.head_at-head.result in
     let l : s.at + item_head ≤ s.end = omega arith in
     record {
-      is = at_head (let at : goal.After-head_at-head = search in at) ∙ front_opens s.bytes.now (s.at + item_head) s.end l p.1 h.tag h.kind h.length c.if-kind-eq-STRUCTURE.true c.if-length-room.false;
+      is = at_head ∙ front_opens s.bytes.now (s.at + item_head) s.end l p.1 h.tag h.kind h.length c.if-kind-eq-STRUCTURE.true c.if-length-room.false;
       inside = omega arith;
     }
 
 pub returns-then-not-is_value : goal.returns-then-not-is_value
 returns-then-not-is_value c =
+    let at_head : (let s = c.args in
+    let h = c.head_at-head.result in
+    front (part s.at (s.end - s.at) s.bytes.now)
+    ≡ front_of h.tag h.kind h.length (part (s.at + item_head) (s.end - (s.at + item_head)) s.bytes.now)) = let s = c.args in
+    let p = c.requires in
+    front_run s.bytes.now s.at s.end p.0 p.1 (omega arith) c.head_at-head.result c.head_at-head.ensures in
     let s = c.args in
     let p = c.requires in
     let h = c.head_at-head.result in
     let l : s.at + item_head ≤ s.end = omega arith in
-    let no = sym c.is_value.ensures ∙ not-true _ c.if-not-is_value.true in
+    let no = sym c.is_value.ensures ∙ c.if-not-is_value.true in
     record {
-      is = at_head (let at : goal.After-head_at-head = search in at) ∙ front_unvalued s.bytes.now (s.at + item_head) s.end l p.1 h.tag h.kind h.length c.if-kind-eq-STRUCTURE.false no;
+      is = at_head ∙ front_unvalued s.bytes.now (s.at + item_head) s.end l p.1 h.tag h.kind h.length c.if-kind-eq-STRUCTURE.false no;
       inside = tt;
     }
 
 pub returns-then-whole-room : goal.returns-then-whole-room
 returns-then-whole-room c =
+    let at_head : (let s = c.args in
+    let h = c.head_at-head.result in
+    front (part s.at (s.end - s.at) s.bytes.now)
+    ≡ front_of h.tag h.kind h.length (part (s.at + item_head) (s.end - (s.at + item_head)) s.bytes.now)) = let s = c.args in
+    let p = c.requires in
+    front_run s.bytes.now s.at s.end p.0 p.1 (omega arith) c.head_at-head.result c.head_at-head.ensures in
+    let valued : (is_value c.head_at-head.result.kind c.head_at-head.result.length ≡ true) = sym c.is_value.ensures ∙ c.if-not-is_value.false in
     let s = c.args in
     let p = c.requires in
     let h = c.head_at-head.result in
     let l : s.at + item_head ≤ s.end = omega arith in
     record {
       is =
-          at_head (let at : goal.After-head_at-head = search in at)
-          ∙ front_wide s.bytes.now (s.at + item_head) s.end l p.1 h.tag h.kind h.length c.if-kind-eq-STRUCTURE.false (valued (let at : goal.Else-not-is_value = search in at)) c.if-whole-room.true;
+          at_head
+          ∙ front_wide s.bytes.now (s.at + item_head) s.end l p.1 h.tag h.kind h.length c.if-kind-eq-STRUCTURE.false (valued) c.if-whole-room.true;
       inside = tt;
     }
 
 pub returns-then-not-all_zero : goal.returns-then-not-all_zero
 returns-then-not-all_zero c =
+    let at_head : (let s = c.args in
+    let h = c.head_at-head.result in
+    front (part s.at (s.end - s.at) s.bytes.now)
+    ≡ front_of h.tag h.kind h.length (part (s.at + item_head) (s.end - (s.at + item_head)) s.bytes.now)) = let s = c.args in
+    let p = c.requires in
+    front_run s.bytes.now s.at s.end p.0 p.1 (omega arith) c.head_at-head.result c.head_at-head.ensures in
+    let valued : (is_value c.head_at-head.result.kind c.head_at-head.result.length ≡ true) = sym c.is_value.ensures ∙ c.if-not-is_value.false in
+    let padding : (let s = c.args in
+    let h = c.head_at-head.result in
+    c.all_zero.result ≡ all_zero (part (s.at + item_head + h.length) (to_eight h.length - h.length) s.bytes.now)) = let s = c.args in
+    c.all_zero.ensures ∙ ap all_zero (lent_padding (s.at + item_head) c.head_at-head.result.length s.bytes.now) in
     let s = c.args in
     let p = c.requires in
     let h = c.head_at-head.result in
     let l : s.at + item_head ≤ s.end = omega arith in
-    let no = sym (padding (let at : goal.After-all_zero = search in at)) ∙ not-true _ c.if-not-all_zero.true in
+    let no = sym (padding) ∙ c.if-not-all_zero.true in
     record {
       is =
-          at_head (let at : goal.After-head_at-head = search in at)
-          ∙ front_unclean s.bytes.now (s.at + item_head) s.end l p.1 h.tag h.kind h.length c.if-kind-eq-STRUCTURE.false (valued (let at : goal.Else-not-is_value = search in at)) c.if-whole-room.false no;
+          at_head
+          ∙ front_unclean s.bytes.now (s.at + item_head) s.end l p.1 h.tag h.kind h.length c.if-kind-eq-STRUCTURE.false (valued) c.if-whole-room.false no;
       inside = tt;
     }
 
 pub returns : goal.returns
 returns c =
+    let at_head : (let s = c.args in
+    let h = c.head_at-head.result in
+    front (part s.at (s.end - s.at) s.bytes.now)
+    ≡ front_of h.tag h.kind h.length (part (s.at + item_head) (s.end - (s.at + item_head)) s.bytes.now)) = let s = c.args in
+    let p = c.requires in
+    front_run s.bytes.now s.at s.end p.0 p.1 (omega arith) c.head_at-head.result c.head_at-head.ensures in
+    let valued : (is_value c.head_at-head.result.kind c.head_at-head.result.length ≡ true) = sym c.is_value.ensures ∙ c.if-not-is_value.false in
+    let padding : (let s = c.args in
+    let h = c.head_at-head.result in
+    c.all_zero.result ≡ all_zero (part (s.at + item_head + h.length) (to_eight h.length - h.length) s.bytes.now)) = let s = c.args in
+    c.all_zero.ensures ∙ ap all_zero (lent_padding (s.at + item_head) c.head_at-head.result.length s.bytes.now) in
     let s = c.args in
     let p = c.requires in
     let h = c.head_at-head.result in
     let l : s.at + item_head ≤ s.end = omega arith in
-    let yes = sym (padding (let at : goal.After-all_zero = search in at)) ∙ not-false _ c.if-not-all_zero.false in
+    let yes = sym (padding) ∙ c.if-not-all_zero.false in
     record {
       is =
-          at_head (let at : goal.After-head_at-head = search in at)
-          ∙ front_closed s.bytes.now (s.at + item_head) s.end l p.1 h.tag h.kind h.length c.if-kind-eq-STRUCTURE.false (valued (let at : goal.Else-not-is_value = search in at)) c.if-whole-room.false yes;
+          at_head
+          ∙ front_closed s.bytes.now (s.at + item_head) s.end l p.1 h.tag h.kind h.length c.if-kind-eq-STRUCTURE.false (valued) c.if-whole-room.false yes;
       inside = (refl, omega arith);
     }

@@ -1,6 +1,5 @@
 -- `good_list` meets its contract: what is left to test decides the whole.
 -- Assumes nothing.
-use borrow.Author.Tests.{not-true, not-false}
 use native.Mathlib.Omega.{arith}
 use mathlib.Core.Path.{refl, sym, ◌∙◌}
 use Prim.Native.Nat.{◌-◌}
@@ -23,19 +22,19 @@ returns-then-not-good_item c =
     let s = c.args in
     let l = c.loop-i in
     let step = item_by l.i s.count s.items.now c.item_in-item.result c.item_in-item.ensures c.loop-i-test.true in
-    let no = sym c.good_item.ensures ∙ not-true _ c.if-not-good_item.true in
+    let no = sym c.good_item.ensures ∙ c.if-not-good_item.true in
     good_stop (items_in s.count s.items.now) l.i c.item_in-item.result step s.n l.most no ∙ l.invariant
 
 pub most_behind-most-requires : goal.most_behind-most-requires
 most_behind-most-requires c =
-    good_depth c.args.n c.loop-i.most c.item_in-item.result (sym c.good_item.ensures ∙ not-false _ c.if-not-good_item.false)
+    good_depth c.args.n c.loop-i.most c.item_in-item.result (sym c.good_item.ensures ∙ c.if-not-good_item.false)
 
 pub loop-i-preserved : goal.loop-i-preserved
 loop-i-preserved c =
     let s = c.args in
     let l = c.loop-i in
     let step = item_by l.i s.count s.items.now c.item_in-item.result c.item_in-item.ensures c.loop-i-test.true in
-    let yes = sym c.good_item.ensures ∙ not-false _ c.if-not-good_item.false in
+    let yes = sym c.good_item.ensures ∙ c.if-not-good_item.false in
     let b = c.most_behind-most in
     good_more (items_in s.count s.items.now) l.i c.item_in-item.result step s.n l.most b.result yes b.ensures ∙ l.invariant
 

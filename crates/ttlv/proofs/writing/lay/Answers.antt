@@ -20,13 +20,11 @@ as_written-item-requires c =
     let sum = c.loop-i.invariant.sum in
     record { enough = p.enough; one_of = c.loop-i-test.true; fits = omega arith }
 
--- a piece is to be laid
-piece : (c : goal.After-as_written-item)
-    → let s = c.args in
+pub slice_bounds-put_item-count : goal.slice_bounds-put_item-count
+slice_bounds-put_item-count c =
+    let piece : (let s = c.args in
     let l = c.loop-i in
-    Piece s.values.now (items_in s.count s.items.now) s.out.now l.out l.at l.i (item_no l.i s.items.now) c.as_written-item.result
-piece c =
-    let s = c.args in
+    Piece s.values.now (items_in s.count s.items.now) s.out.now l.out l.at l.i (item_no l.i s.items.now) c.as_written-item.result) = let s = c.args in
     let p = c.requires in
     record {
       so_far = c.loop-i.invariant;
@@ -34,31 +32,72 @@ piece c =
       inside = p.inside;
       fits = p.room;
       is_piece = c.as_written-item.ensures;
-    }
-
-pub slice_bounds-put_item-count : goal.slice_bounds-put_item-count
-slice_bounds-put_item-count c =
-    let r = piece_room (piece (let at : goal.After-as_written-item = search in at)) in
+    } in
+    let r = piece_room (piece) in
     omega arith
 
 pub slice_bounds-put_item-start : goal.slice_bounds-put_item-start
 slice_bounds-put_item-start c =
-    let r = piece_room (piece (let at : goal.After-as_written-item = search in at)) in
+    let piece : (let s = c.args in
+    let l = c.loop-i in
+    Piece s.values.now (items_in s.count s.items.now) s.out.now l.out l.at l.i (item_no l.i s.items.now) c.as_written-item.result) = let s = c.args in
+    let p = c.requires in
+    record {
+      so_far = c.loop-i.invariant;
+      step = next_item c.loop-i.i s.count s.items.now c.loop-i-test.true;
+      inside = p.inside;
+      fits = p.room;
+      is_piece = c.as_written-item.ensures;
+    } in
+    let r = piece_room (piece) in
     omega arith
 
 pub put_item-requires : goal.put_item-requires
 put_item-requires c =
-    (piece_lent (piece (let at : goal.After-as_written-item = search in at)), piece_inside (piece (let at : goal.After-as_written-item = search in at)))
+    let piece : (let s = c.args in
+    let l = c.loop-i in
+    Piece s.values.now (items_in s.count s.items.now) s.out.now l.out l.at l.i (item_no l.i s.items.now) c.as_written-item.result) = let s = c.args in
+    let p = c.requires in
+    record {
+      so_far = c.loop-i.invariant;
+      step = next_item c.loop-i.i s.count s.items.now c.loop-i-test.true;
+      inside = p.inside;
+      fits = p.room;
+      is_piece = c.as_written-item.ensures;
+    } in
+    (piece_lent (piece), piece_inside (piece))
 
 pub overflow_add-at : goal.overflow_add-at
 overflow_add-at c =
-    let r = piece_room (piece (let at : goal.After-as_written-item = search in at)) in
+    let piece : (let s = c.args in
+    let l = c.loop-i in
+    Piece s.values.now (items_in s.count s.items.now) s.out.now l.out l.at l.i (item_no l.i s.items.now) c.as_written-item.result) = let s = c.args in
+    let p = c.requires in
+    record {
+      so_far = c.loop-i.invariant;
+      step = next_item c.loop-i.i s.count s.items.now c.loop-i-test.true;
+      inside = p.inside;
+      fits = p.room;
+      is_piece = c.as_written-item.ensures;
+    } in
+    let r = piece_room (piece) in
     let m = c.room-at.ensures.is in
     omega arith
 
 pub loop-i-preserved : goal.loop-i-preserved
 loop-i-preserved c =
-    lay_more (piece (let at : goal.After-as_written-item = search in at)) c.put_item.new.out c.room-at.result c.put_item.ensures c.room-at.ensures.is
+    let piece : (let s = c.args in
+    let l = c.loop-i in
+    Piece s.values.now (items_in s.count s.items.now) s.out.now l.out l.at l.i (item_no l.i s.items.now) c.as_written-item.result) = let s = c.args in
+    let p = c.requires in
+    record {
+      so_far = c.loop-i.invariant;
+      step = next_item c.loop-i.i s.count s.items.now c.loop-i-test.true;
+      inside = p.inside;
+      fits = p.room;
+      is_piece = c.as_written-item.ensures;
+    } in
+    lay_more (piece) c.put_item.new.out c.room-at.result c.put_item.ensures c.room-at.ensures.is
 
 pub shape_of-out : goal.shape_of-out
 shape_of-out c =

@@ -1,0 +1,9 @@
+-- `aes::columns::added` meets its contract: word by word.
+-- Assumes nothing.
+use mathlib.Core.Path.{refl}
+use Rattle.rules.specs.AesBytes.{◌⊕◌}
+use Rattle.aes.proofs.columns.added.Goals as goal
+
+pub returns : goal.returns
+unfolding ◌⊕◌
+returns c = refl

@@ -1,0 +1,13 @@
+-- `aes::columns::last` meets its contract: column by column.
+-- Assumes nothing.
+use mathlib.Core.Path.{◌∙◌}
+use Rattle.aes.specs.ByTables.{added}
+use Rattle.aes.proofs.columns.last.Goals as goal
+
+pub returns : goal.returns
+returns c =
+    let p = c.substituted.ensures in
+    let q = c.substituted-2.ensures in
+    let r = c.substituted-3.ensures in
+    let t = c.substituted-4.ensures in
+    c.added.ensures ∙ (λ i. added (record { a = p i; b = q i; c = r i; d = t i }) c.args.k)

@@ -1,0 +1,15 @@
+-- `wrap::unseal` meets its contract: the steps back over the words expanded and mixed back.
+-- Assumes nothing.
+use mathlib.Core.Path.{◌∙◌}
+use native.Mathlib.Omega.{arith}
+use Rattle.rules.specs.AesPromises.{Bytes}
+use Rattle.wrap.proofs.StepsLaws.{unsealed}
+use Rattle.wrap.proofs.unseal.Goals as goal
+
+pub returns : goal.returns
+returns c =
+    let s = c.args in
+    let kek : Bytes 32 s.kek.now = record { long = omega arith; small = λ i. omega (arith, c.shared_slice_known-1.given i) } in
+    let bytes : Bytes 40 s.bytes.now = record { long = omega arith; small = λ i. omega (arith, c.slice_known-1.given i) } in
+    c.unwrap_all.ensures
+    ∙ unsealed s.kek.now s.bytes.now kek bytes s.w.now _ c.expand.ensures _ c.unmix.ensures
