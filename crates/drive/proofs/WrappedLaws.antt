@@ -15,7 +15,6 @@ use Rattle.rules.specs.Checks.{AllPass}
 use Rattle.rules.specs.Answers.{07·10}
 use Rattle.rules.specs.State.{State, refuse, obey, key_encryption_key}
 use Rattle.rules.specs.Slots.{Contents, FitKey, FitWrapped}
-use Rattle.rules.specs.Frames as frames
 use Rattle.rules.specs.Frames.{contents_at}
 use Rattle.rules.specs.KeyWrap.{initial_value, unwrap}
 use Rattle.rules.specs.Order.{frame_rule, slot_checks, with_uid, load, load_wrapped}

@@ -14,7 +14,7 @@ use Rattle.rules.specs.State.{State, Outcome}
 use Rattle.rules.specs.Order.{step}
 use Rattle.rules.specs.Start.{fresh, start_checks}
 use Rattle.rules.specs.Call.{Called, unanswered, answered}
-use Rattle.rules.specs.Sessions.{Session, lines_of, end_state, answers_to, answer_lines, all_answered, session}
+use Rattle.rules.specs.Sessions.{Session, lines_of, end_state, answers_to, answer_lines, all_answered}
 use Rattle.rules.specs.History.{Event, told}
 use Rattle.rules.specs.Promises.{FromFresh, begin, one_more, Steps, session_checks}
 use Rattle.rules.proofs.ChecksLaws.{by_verdict}

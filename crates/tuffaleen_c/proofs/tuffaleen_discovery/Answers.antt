@@ -2,7 +2,7 @@
 -- Assumes nothing.
 use native.Mathlib.Omega.{arith}
 use borrow.Author.Tests.{lt-ltb}
-use Rattle.rules.specs.Answers.{number, 07·16}
+use Rattle.rules.specs.Answers.{07·16}
 use Rattle.tuffaleen_c.specs.Host.{c_discovery}
 use Rattle.tuffaleen_c.proofs.HostLaws.{done_or_refused, told_refused, told_numbers}
 use Rattle.tuffaleen_c.proofs.tuffaleen_discovery.Goals as goal

@@ -1,6 +1,6 @@
 -- `total` meets its contract: the sum so far and the rest are the whole.
 -- Assumes nothing.
-use Rattle.std.proofs.Common.{◌≡◌, ◌-◌, length, arith, rules}
+use Rattle.std.proofs.Common.{◌≡◌, length, arith, rules}
 use Rattle.rules.specs.Numbers.{namespaces}
 use Rattle.rules.proofs.SoundLaws.{total_next, total_end}
 use Rattle.drive.proofs.keys.total.Goals as goal

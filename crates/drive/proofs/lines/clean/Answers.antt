@@ -1,7 +1,7 @@
 -- `clean` meets its contract: while `least` is not 0 no line feed stood
 -- among the first k bytes.
 -- Assumes nothing.
-use Rattle.std.proofs.Common.{◌≡◌, ◌+◌, ◌-◌, arith, ltb-true}
+use Rattle.std.proofs.Common.{◌≡◌, ◌+◌, arith, ltb-true}
 use Rattle.drive.proofs.LinesLaws.{clean_more}
 use Rattle.drive.proofs.lines.clean.Goals as goal
 

@@ -1,6 +1,6 @@
 -- `need_more_than` meets its contract: what has been taken from the room is what the lines before `at` may need.
 -- Assumes nothing.
-use Rattle.std.proofs.Common.{◌-◌, sym, arith, le-ltb, lt-ltb}
+use Rattle.std.proofs.Common.{sym, arith, le-ltb, lt-ltb}
 use Rattle.cells.specs.Cells.{part}
 use Rattle.drive.proofs.LinesLaws.{room_from, no_room, room_splits}
 use Rattle.drive.proofs.lines.need_more_than.Goals as goal

@@ -1,6 +1,6 @@
 -- `next_line` meets its contract: no line feed stands before i.
 -- Assumes nothing.
-use Rattle.std.proofs.Common.{◌-◌, arith}
+use Rattle.std.proofs.Common.{arith}
 use Rattle.drive.proofs.LinesLaws.{fed, ended, clean_more, clean_both}
 use Rattle.drive.proofs.lines.next_line.Goals as goal
 

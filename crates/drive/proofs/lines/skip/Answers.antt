@@ -1,6 +1,6 @@
 -- `skip` meets its contract: no line feed stands before i.
 -- Assumes nothing.
-use Rattle.std.proofs.Common.{◌-◌, arith}
+use Rattle.std.proofs.Common.{arith}
 use Rattle.drive.proofs.LinesLaws.{clean_both}
 use Rattle.drive.proofs.lines.skip.Goals as goal
 

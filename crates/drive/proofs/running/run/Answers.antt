@@ -1,6 +1,6 @@
 -- `run` meets its contract: after each line what is left completes the whole, and the state stays sound.
 -- Assumes nothing.
-use Rattle.std.proofs.Common.{◌-◌, sym, refl, ◌∙◌, arith}
+use Rattle.std.proofs.Common.{sym, refl, ◌∙◌, arith}
 use Rattle.cells.specs.Cells.{part, zeros}
 use Rattle.rules.specs.State.{State}
 use Rattle.drive.specs.Acting.{state}

@@ -1,7 +1,6 @@
 -- `widen` meets its contract: the first i numbers are the bytes of src, the rest is as it was.
 -- Assumes nothing.
 use native.Mathlib.Omega.{arith}
-use Prim.Native.Nat.{◌-◌}
 use Rattle.cells.proofs.CopyingLaws.{not_copied, copying_none, copying_more, copying_all}
 use Rattle.tuffaleen_c.proofs.host.widen.Goals as goal
 
