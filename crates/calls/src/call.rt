@@ -40,6 +40,7 @@ fn lend_line(
 
 // A call of answer_line: number, bytes written, whether state with cache, store and the rest of the output stayed.
 pub(crate) fn line(
+    rt: &impl Print,
     setting: Setting,
     keys: &mut Cache,
     marks: &mut Marks,
@@ -52,13 +53,13 @@ pub(crate) fn line(
     let answer = left.answer;
     let after = left.registers;
     let before = setting.registers;
-    show::answer(answer, &out, left.bytes);
+    show::answer(rt, answer, &out, left.bytes);
     let small = same_registers(after, before);
     let cache = same_cache(keys, &kept_keys);
-    show::same_or_changed(b" state", small && cache);
+    show::same_or_changed(rt, b" state", small && cache);
     let store = same_marks(marks, &kept_marks);
-    show::same_or_changed(b" marks", store);
-    show::rest(&out, left.bytes);
+    show::same_or_changed(rt, b" marks", store);
+    show::rest(rt, &out, left.bytes);
     after
 }
 
@@ -85,21 +86,27 @@ fn fresh_cache(keys: &[u8]) -> bool {
 }
 
 // A call of start: number, whether the state is fresh, whether the store stayed, and whether the lent part is zeros.
-pub(crate) fn start(keys: &mut Cache, marks: &mut Marks, store: usize, cache: usize) -> Registers {
+pub(crate) fn start(
+    rt: &impl Print,
+    keys: &mut Cache,
+    marks: &mut Marks,
+    store: usize,
+    cache: usize,
+) -> Registers {
     *keys = [7u8; CACHE_SIZE];
     *marks = [7u8; MOST];
     let kept = *marks;
     let left = lend_start(keys, marks, store, cache);
     let answer = left.answer;
     let after = left.registers;
-    show::number(answer);
+    show::number(rt, answer);
     let small = same_registers(after, made::fresh());
     let empty = fresh_cache(keys);
-    show::where_so(b" fresh", small && empty);
+    show::where_so(rt, b" fresh", small && empty);
     let same = same_marks(marks, &kept);
-    show::same_or_changed(b" marks", same);
+    show::same_or_changed(rt, b" marks", same);
     let zero = all_zero(marks, store);
-    show::where_so(b", zeros", zero);
-    show::text(b"\n");
+    show::where_so(rt, b", zeros", zero);
+    show::text(rt, b"\n");
     after
 }

@@ -5,13 +5,17 @@
 // STORE and OUTPUT say how many bytes are lent, MISSING how many bytes of the cache are not; the four N are the tag counts. The made drive has a store full of
 // sevens, both partitions Write Locked, and every slot empty but the one at PLACE of the cache: its byte at OTHER is 1,
 // and then its first byte is set to LENGTH. Numbers are decimal, and those left off are 0.
+#![tactic(auto)]
+
+ghost use Rattle.std.specs.Prelude.{◌≤◌, length};
+
 mod call;
 mod made;
 mod show;
 mod text;
 
-use libc::STDIN_FILENO;
 use rules::{CACHE_SIZE, DISCOVERY_MOST, Registers, STORE_SIZE};
+use std::io::Read;
 
 // The longest input; what is past it is not read.
 const INPUT: usize = 32768;
@@ -37,6 +41,7 @@ pub struct Setting {
 
 // One call of the library: answer_line, or start where the word says so.
 fn one_call(
+    rt: &impl Print,
     registers: Registers,
     keys: &mut Cache,
     marks: &mut Marks,
@@ -45,41 +50,69 @@ fn one_call(
 ) -> Registers {
     let n = text::numbers(numbers);
     if cells::equal(word, b"start") {
-        return call::start(keys, marks, n[0], text::less(CACHE_SIZE, n[1]));
+        return call::start(rt, keys, marks, n[0], text::less(CACHE_SIZE, n[1]));
     }
     let setting = if numbers.len() == 0 {
         made::usual(registers)
     } else {
         made::setting(keys, marks, n)
     };
-    call::line(setting, keys, marks, word)
+    call::line(rt, setting, keys, marks, word)
 }
 
 // One line of the input.
-fn one_line(registers: Registers, keys: &mut Cache, marks: &mut Marks, line: &[u8]) -> Registers {
+fn one_line(
+    rt: &impl Print,
+    registers: Registers,
+    keys: &mut Cache,
+    marks: &mut Marks,
+    line: &[u8],
+) -> Registers {
     let label = text::find(line, 0, b'|');
     let word = text::least(label + 1, line.len());
     let end = text::find(line, word, b'|');
     let numbers = text::least(end + 1, line.len());
-    show::text(&line[0..label]);
-    show::text(b": ");
-    one_call(registers, keys, marks, &line[word..end], &line[numbers..])
+    show::text(rt, &line[0..label]);
+    show::text(rt, b": ");
+    one_call(
+        rt,
+        registers,
+        keys,
+        marks,
+        &line[word..end],
+        &line[numbers..],
+    )
 }
 
-fn all_lines(keys: &mut Cache, marks: &mut Marks, input: &[u8]) {
+fn all_lines(rt: &impl Print, keys: &mut Cache, marks: &mut Marks, input: &[u8]) {
     let mut registers = made::fresh();
     let mut at = 0;
     while at < input.len() {
         let end = text::find(input, at, b'\n');
-        registers = one_line(registers, keys, marks, &input[at..end]);
+        registers = one_line(rt, registers, keys, marks, &input[at..end]);
         at = end + 1;
     }
 }
 
-fn main() {
+// Reads until the text is full, the input ends or a read fails, and returns how many bytes it put there.
+fn read_text(rt: &HostRuntime, text: &mut [u8]) -> usize
+    ensures { result ≤ length text.new }
+{
+    let mut n = 0;
+    while n < text.len() {
+        match rt.stdin().read(&mut text[n..]) {
+            Ok(0) => return n,
+            Ok(more) => n += more,
+            Err(_) => return n,
+        }
+    }
+    n
+}
+
+fn main(rt: HostRuntime) {
     let mut input = [0u8; INPUT];
-    let n = io::read_full(STDIN_FILENO, &mut input);
+    let n = read_text(&rt, &mut input);
     let mut keys = [0u8; CACHE_SIZE];
     let mut marks = [0u8; MOST];
-    all_lines(&mut keys, &mut marks, &input[..n]);
+    all_lines(&rt, &mut keys, &mut marks, &input[..n]);
 }

@@ -1,10 +1,10 @@
 // What a call left, as text.
 use crate::ROOM;
-use libc::STDOUT_FILENO;
 use rules::{Answer, NAMESPACES, Registers};
 
-pub(crate) fn text(s: &[u8]) {
-    io::write_all(STDOUT_FILENO, s);
+// A write that fails is told by nobody: whoever runs this compares what was printed.
+pub(crate) fn text(rt: &impl Print, s: &[u8]) {
+    let _ = rt.write_all(s);
 }
 
 const BASE: u16 = 16;
@@ -17,7 +17,7 @@ fn digit(n: u16) -> u8 {
 }
 
 // The answer's number, as four digits.
-pub(crate) fn number(answer: Answer) {
+pub(crate) fn number(rt: &impl Print, answer: Answer) {
     let n = digits::number(answer);
     let four = [
         digit(n / BASE / BASE / BASE),
@@ -25,45 +25,45 @@ pub(crate) fn number(answer: Answer) {
         digit(n / BASE),
         digit(n),
     ];
-    text(&four);
+    text(rt, &four);
 }
 
 // An answer's line, with a stroke for the line feed at the end.
-fn written(out: &[u8], last: usize) {
+fn written(rt: &impl Print, out: &[u8], last: usize) {
     if last >= out.len() {
         return;
     }
-    text(b" ");
-    text(&out[0..last]);
+    text(rt, b" ");
+    text(rt, &out[0..last]);
     if out[last] == b'\n' {
-        text(b"/");
+        text(rt, b"/");
     }
 }
 
 // The answer's number, how many bytes were written, and which.
-pub(crate) fn answer(answer: Answer, out: &[u8], bytes: usize) {
-    number(answer);
-    text(b" ");
-    io::print_decimal(STDOUT_FILENO, bytes as u64);
+pub(crate) fn answer(rt: &impl Print, answer: Answer, out: &[u8], bytes: usize) {
+    number(rt, answer);
+    text(rt, b" ");
+    let _ = print!(rt; "{bytes}");
     if bytes == 0 {
         return;
     }
-    written(out, bytes - 1);
+    written(rt, out, bytes - 1);
 }
 
-pub(crate) fn where_so(what: &[u8], so: bool) {
+pub(crate) fn where_so(rt: &impl Print, what: &[u8], so: bool) {
     if so {
-        text(what);
+        text(rt, what);
     }
 }
 
-pub(crate) fn same_or_changed(what: &[u8], same: bool) {
-    text(what);
+pub(crate) fn same_or_changed(rt: &impl Print, what: &[u8], same: bool) {
+    text(rt, what);
     if same {
-        text(b" same");
+        text(rt, b" same");
         return;
     }
-    text(b" changed");
+    text(rt, b" changed");
 }
 
 fn same_from(a: &[u8], b: &[u8], from: usize) -> bool {
@@ -77,11 +77,11 @@ fn same_from(a: &[u8], b: &[u8], from: usize) -> bool {
 }
 
 // Whether the output past the bytes written still has the dots that it had.
-pub(crate) fn rest(out: &[u8], bytes: usize) {
+pub(crate) fn rest(rt: &impl Print, out: &[u8], bytes: usize) {
     let dots = [b'.'; ROOM];
     let same = same_from(out, &dots, bytes);
-    same_or_changed(b" rest", same);
-    text(b"\n");
+    same_or_changed(rt, b" rest", same);
+    text(rt, b"\n");
 }
 
 // The small state as bytes: the counts, then the locks.

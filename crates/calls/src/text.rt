@@ -2,7 +2,6 @@
 ghost use Rattle.std.specs.Prelude.{◌≤◌, length};
 
 use rules::NAMESPACES;
-use std::num::wrapping_sub_u8;
 
 // As many numbers as an input line may have: two lengths, the tag counts, three for a slot, and one for the cache.
 pub const NUMBERS: usize = 2 + NAMESPACES + 3 + 1;
@@ -55,7 +54,7 @@ pub(crate) fn numbers(text: &[u8]) -> [usize; NUMBERS] {
         if k >= NUMBERS {
             return all;
         }
-        let digit = wrapping_sub_u8(text[i], b'0');
+        let digit = text[i].wrapping_sub(b'0');
         if digit < 10 {
             all[k] = with_digit(all[k], digit);
         } else {

@@ -1,6 +1,10 @@
 // Answers a session: standard input to standard output.
-use libc::{STDERR_FILENO, STDIN_FILENO, STDOUT_FILENO};
+#![tactic(auto)]
+
+ghost use Rattle.std.specs.Prelude.{◌≤◌, length};
+
 use rules::{ANSWER_MOST, Answer, CACHE_SIZE, PROGRAM_KEK, Refusal, STORE_SIZE};
+use std::io::{Read, Write};
 
 // The longest input, and room for a short answer to as many lines as it could have. Discovery takes more; a session that needs more than
 // this is refused.
@@ -8,41 +12,44 @@ const INPUT: usize = 4096;
 
 const OUTPUT: usize = INPUT * ANSWER_MOST;
 
-fn print(answers: &[u8]) {
-    if !io::write_all(STDOUT_FILENO, answers) {
-        io::write_all(
-            STDERR_FILENO,
-            b"tuffaleen: a write failed, so answers are missing\n",
-        );
+fn print(rt: &HostRuntime, answers: &[u8]) {
+    if rt.stdout().write_all(answers).is_err() {
+        let _ = eprintln!(rt; "tuffaleen: a write failed, so answers are missing");
     }
 }
 
-// Fewer bytes than asked for are the input's end or a read that failed. One more read tells which.
-fn tell_failed_read() {
-    let mut more = [0u8; 1];
-    if libc::read(STDIN_FILENO, &mut more) < 0 {
-        io::write_all(
-            STDERR_FILENO,
-            b"tuffaleen: a read failed, so the input ends there\n",
-        );
+// Reads until the text is full or the input ends, and returns how many bytes it put there. A read that fails ends the input too, and is told.
+fn read_text(rt: &HostRuntime, text: &mut [u8]) -> usize
+    ensures { result ≤ length text.new }
+{
+    let mut n = 0;
+    while n < text.len() {
+        match rt.stdin().read(&mut text[n..]) {
+            Ok(0) => return n,
+            Ok(more) => n += more,
+            Err(_) => {
+                let _ = eprintln!(rt; "tuffaleen: a read failed, so the input ends there");
+                return n;
+            }
+        }
     }
+    n
 }
 
 // The line of the number that refused the whole session.
-fn print_refusal(refusal: Refusal) {
+fn print_refusal(rt: &HostRuntime, refusal: Refusal) {
     let mut out = [0u8; ANSWER_MOST];
     let bytes = digits::write_answer(Answer::Refused(refusal), &mut out);
-    print(&out[..bytes]);
+    print(rt, &out[..bytes]);
 }
 
-fn main() {
+fn main(rt: HostRuntime) {
     let mut text = [0u8; INPUT + 1];
-    let n = io::read_full(STDIN_FILENO, &mut text);
+    let n = read_text(&rt, &mut text);
     if n > INPUT {
-        print_refusal(Refusal::OutputTooShort);
+        print_refusal(&rt, Refusal::OutputTooShort);
         return;
     }
-    tell_failed_read();
     let mut keys = [0u8; CACHE_SIZE];
     let mut marks = [0u8; STORE_SIZE];
     let mut out = [0u8; OUTPUT];
@@ -52,9 +59,9 @@ fn main() {
     let ran = drive::answer_session(fresh, &mut keys, &mut marks, &text[..n], &mut out);
     let result = ran.result;
     if let Answer::Refused(refusal) = result {
-        print_refusal(refusal);
+        print_refusal(&rt, refusal);
         return;
     }
     let bytes = ran.bytes;
-    print(&out[..bytes]);
+    print(&rt, &out[..bytes]);
 }

@@ -1,4 +1,5 @@
-// The drive for callers in C: the state as one byte image that the caller holds. include/tuffaleen.h declares this.
+// The drive for callers in C: the state as one byte image that the caller holds. include/tuffaleen.h declares this, and crates/tuffaleen_archive
+// exports it.
 ghost use Rattle.std.specs.Prelude.{◌≡◌, drop};
 ghost use Rattle.tuffaleen_c.specs.Image.{c_start, c_call, c_session};
 ghost use Rattle.tuffaleen_c.specs.Host.{c_discovery};
@@ -16,8 +17,7 @@ use aes::SCHEDULE;
 use rules::{Answer, KEK_SIZE, Refusal, WRAPPED_SIZE};
 
 // A fresh drive with this key-encryption key, in an image of the right length.
-#[unsafe(no_mangle)]
-pub extern "C" fn tuffaleen_start(image: &mut [u8], marks: &mut [u8], kek: &[u8; KEK_SIZE]) -> u16
+pub fn tuffaleen_start(image: &mut [u8], marks: &mut [u8], kek: &[u8; KEK_SIZE]) -> u16
     ensures { record { number = result; image = image.new; marks = marks.new }
         ≡ c_start kek.now image.old marks.old }
 {
@@ -31,8 +31,7 @@ pub extern "C" fn tuffaleen_start(image: &mut [u8], marks: &mut [u8], kek: &[u8;
 }
 
 // One line.
-#[unsafe(no_mangle)]
-pub extern "C" fn tuffaleen_line(
+pub fn tuffaleen_line(
     image: &mut [u8],
     marks: &mut [u8],
     line: &[u8],
@@ -54,8 +53,7 @@ pub extern "C" fn tuffaleen_line(
 }
 
 // A whole session.
-#[unsafe(no_mangle)]
-pub extern "C" fn tuffaleen_session(
+pub fn tuffaleen_session(
     image: &mut [u8],
     marks: &mut [u8],
     text: &[u8],
@@ -86,8 +84,7 @@ pub extern "C" fn tuffaleen_session(
 }
 
 // For a host: what stands in a discovery response.
-#[unsafe(no_mangle)]
-pub extern "C" fn tuffaleen_discovery(bytes: &[u8], fields: &mut [u32]) -> u16
+pub fn tuffaleen_discovery(bytes: &[u8], fields: &mut [u32]) -> u16
     ensures { record { number = result; fields = fields.new } ≡ c_discovery bytes.now fields.old }
 {
     if fields.len() < host::FIELDS_SIZE {
@@ -106,8 +103,7 @@ pub extern "C" fn tuffaleen_discovery(bytes: &[u8], fields: &mut [u32]) -> u16
 }
 
 // For the key office: the message that brings a key to a slot.
-#[unsafe(no_mangle)]
-pub extern "C" fn tuffaleen_message(
+pub fn tuffaleen_message(
     namespace: u8,
     tag: u16,
     uid: &[u8],
@@ -125,8 +121,7 @@ pub extern "C" fn tuffaleen_message(
 
 // For the office that fills a courier's case: the key in the last 32 bytes, wrapped. The round keys go through words of the caller's: of words
 // that were local here the wipe would not be in the object code.
-#[unsafe(no_mangle)]
-pub extern "C" fn tuffaleen_wrap(
+pub fn tuffaleen_wrap(
     kek: &[u8; KEK_SIZE],
     bytes: &mut [u8; WRAPPED_SIZE],
     words: &mut [u32; SCHEDULE],
@@ -137,8 +132,7 @@ pub extern "C" fn tuffaleen_wrap(
 }
 
 // And for whoever opens it.
-#[unsafe(no_mangle)]
-pub extern "C" fn tuffaleen_unwrap(
+pub fn tuffaleen_unwrap(
     kek: &[u8; KEK_SIZE],
     bytes: &mut [u8; WRAPPED_SIZE],
     words: &mut [u32; SCHEDULE],

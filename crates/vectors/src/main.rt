@@ -1,5 +1,7 @@
 // The published vectors through the proved code: the 60 words of FIPS 197 A.3; C.3 and SP 800-38A F.1.5 both ways; RFC 3394 4.6 both ways, and
 // a + for each of the 320 bits of its wrapped key that, flipped, is refused. The file `stdout` is typed from the standards.
+#![tactic(auto)]
+
 mod show;
 
 use aes::{Block, SCHEDULE};
@@ -20,50 +22,55 @@ const KEY_TO_WRAP: [u8; WRAPPED_SIZE] = *b"\
     \x00\x11\x22\x33\x44\x55\x66\x77\x88\x99\xAA\xBB\xCC\xDD\xEE\xFF\
     \x00\x01\x02\x03\x04\x05\x06\x07\x08\x09\x0A\x0B\x0C\x0D\x0E\x0F";
 
-fn schedule(words: &mut [u32; SCHEDULE]) {
+fn schedule(rt: &impl Print, words: &mut [u32; SCHEDULE]) {
     let key = NIST_KEY;
     aes::expand(&key, words);
     let mut i = 0;
     while i < SCHEDULE {
-        show::word(words[i]);
-        show::text(b"\n");
+        show::word(rt, words[i]);
+        show::text(rt, b"\n");
         i += 1;
     }
 }
 
 // A block under a key, and back.
-fn both_ways(key: &[u8], words: &mut [u32; SCHEDULE], block: Block) {
+fn both_ways(rt: &impl Print, key: &[u8], words: &mut [u32; SCHEDULE], block: Block) {
     let coded = aes::cipher(key, words, block);
-    show::block(coded);
-    show::text(b" ");
-    show::block(aes::inv_cipher(key, words, coded));
-    show::text(b"\n");
+    show::block(rt, coded);
+    show::text(rt, b" ");
+    show::block(rt, aes::inv_cipher(key, words, coded));
+    show::text(rt, b"\n");
 }
 
-fn blocks(words: &mut [u32; SCHEDULE]) {
+fn blocks(rt: &impl Print, words: &mut [u32; SCHEDULE]) {
     let counted = COUNTED_KEY;
     let nist = NIST_KEY;
     both_ways(
+        rt,
         &counted,
         words,
         show::block_of(0x00112233, 0x44556677, 0x8899AABB, 0xCCDDEEFF),
     );
     both_ways(
+        rt,
         &nist,
         words,
         show::block_of(0x6BC1BEE2, 0x2E409F96, 0xE93D7E11, 0x7393172A),
     );
     both_ways(
+        rt,
         &nist,
         words,
         show::block_of(0xAE2D8A57, 0x1E03AC9C, 0x9EB76FAC, 0x45AF8E51),
     );
     both_ways(
+        rt,
         &nist,
         words,
         show::block_of(0x30C81C46, 0xA35CE411, 0xE5FBC119, 0x1A0A52EF),
     );
     both_ways(
+        rt,
         &nist,
         words,
         show::block_of(0xF69F2445, 0xDF4F9B17, 0xAD2B417B, 0xE66C3710),
@@ -86,38 +93,38 @@ fn flipped(words: &mut [u32; SCHEDULE], at: usize, bit: u8) -> bool {
 }
 
 // A sign for each of a byte's eight bits.
-fn of_byte(words: &mut [u32; SCHEDULE], at: usize) {
+fn of_byte(rt: &impl Print, words: &mut [u32; SCHEDULE], at: usize) {
     let bits = [1u8, 2, 4, 8, 16, 32, 64, 128];
     let mut i = 0;
     while i < 8 {
-        show::refused(flipped(words, at, bits[i]));
+        show::refused(rt, flipped(words, at, bits[i]));
         i += 1;
     }
 }
 
-fn flips(words: &mut [u32; SCHEDULE]) {
+fn flips(rt: &impl Print, words: &mut [u32; SCHEDULE]) {
     let mut i = 0;
     while i < WRAPPED_SIZE {
-        of_byte(words, i);
+        of_byte(rt, words, i);
         i += 1;
     }
-    show::text(b"\n");
+    show::text(rt, b"\n");
 }
 
-fn wrapped(words: &mut [u32; SCHEDULE]) {
+fn wrapped(rt: &impl Print, words: &mut [u32; SCHEDULE]) {
     let kek = COUNTED_KEY;
     let mut bytes = KEY_TO_WRAP;
     wrap::wrap(&kek, &mut bytes, words);
-    show::bytes(&bytes);
+    show::bytes(rt, &bytes);
     if wrap::unwrap(&kek, &mut bytes, words) {
-        show::bytes(&bytes);
+        show::bytes(rt, &bytes);
     }
 }
 
-fn main() {
+fn main(rt: HostRuntime) {
     let mut words = [0u32; SCHEDULE];
-    schedule(&mut words);
-    blocks(&mut words);
-    wrapped(&mut words);
-    flips(&mut words);
+    schedule(&rt, &mut words);
+    blocks(&rt, &mut words);
+    wrapped(&rt, &mut words);
+    flips(&rt, &mut words);
 }
