@@ -1,4 +1,6 @@
 // A frame line to its bytes, and an answer to its line.
+#![tactic(auto)]
+
 ghost use Rattle.std.specs.Prelude.{◌≡◌};
 ghost use Rattle.rules.specs.Answers.{number as number_of};
 ghost use Rattle.digits.specs.Digits.{read_into, wrote};

@@ -65,6 +65,7 @@ fn fault_of(why: BadLine) -> Fault
     }
 }
 
+#[tactic(auto, unfolding(rules::specs::Answers::fault_of))]
 fn fault_in(refusal: Refusal) -> Fault
     ensures { result ≡ tells (fault_of refusal) }
 {

@@ -1,5 +1,7 @@
 // A line read as a frame: its numbers by value, and where in the frame's bytes KeyUIDs and keys lie; or the refusal. Nothing here looks at a
 // state. Every public function is total.
+#![tactic(auto)]
+
 ghost use Rattle.std.specs.Prelude.{◌≡◌, ◌+◌};
 ghost use Rattle.cells.specs.Cells.{zeros};
 ghost use Rattle.rules.specs.Numbers.{uid_most, key_size};
