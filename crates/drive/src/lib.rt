@@ -1,5 +1,7 @@
 // The drive: the checks of each frame in the paper's order, and its effects. What needs a sound state is private; what others call refuses
 // an unsound one itself. Key cache and mark store are lent, at any length, and never copied.
+#![tactic(auto)]
+
 ghost use Rattle.std.specs.Prelude.{◌≡◌, ◌≤◌, length};
 ghost use Rattle.rules.specs.Start.{emptied_cache, start as started};
 ghost use Rattle.rules.specs.Call.{call, answered, room_for};

@@ -45,7 +45,8 @@ fresh_start kek keys store o l e =
 more : (h : List Event) (s : State) (lines : List (List ℕ)) → FromFresh h s → FromFresh (told lines (answers_to s lines) h) (end_state s lines)
 unfolding told answers_to end_state
 more h s [] f = f
-more h s (line ∷ lines) f = more _ (step s line).state lines (one_more h s f line)
+more h s (line ∷ lines) f =
+    more (record { line = line; answer = (step s line).answer } ∷ h) (step s line).state lines (one_more h s f line)
 
 module _ (s : State) (text out : List ℕ) (o : Session) (l : SessionLeaves s text out o) (answers : List Answer) (shows : Shows o answers) where
   passed : AllPass (session_checks s text out)

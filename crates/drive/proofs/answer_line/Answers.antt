@@ -1,0 +1,38 @@
+-- `answer_line` meets its contract: the call is refused, or its line is answered.
+-- Assumes nothing.
+use Rattle.std.proofs.Common.{◌≡◌, ltb, length, sym, ap, ◌∙◌, rules}
+use Rattle.rules.specs.Numbers.{namespaces}
+use Rattle.rules.specs.State.{State}
+use Rattle.rules.specs.Call.{room_for, unanswered, answered, call}
+use Rattle.drive.specs.Acting.{state}
+use Rattle.drive.proofs.AdmitLaws.{shut, let_in, has_room, ready}
+use Rattle.drive.proofs.answer_line.Goals as goal
+
+pub on_ready-requires : goal.on_ready-requires
+on_ready-requires c =
+    let counted : (length c.args.registers.counts ≡ namespaces) = search rules in
+    let a = c.args in
+    let short = ap (ltb (length a.out.now)) c.room_for.ensures in
+    let e = sym c.in-Open.is ∙ c.admit.ensures in (
+      ready a.registers a.keys.now a.marks.now _ a.out.now _ short e (counted),
+      has_room a.registers a.keys.now a.marks.now _ a.out.now _ short e,
+    )
+
+pub returns-in-Refused : goal.returns-in-Refused
+unfolding call unanswered
+returns-in-Refused c =
+    let a = c.args in
+    let now : State = state a.registers a.keys.now a.marks.now in
+    let short = ap (ltb (length a.out.now)) c.room_for.ensures in
+    shut a.registers a.keys.now a.marks.now (room_for a.line.now) a.out.now _ short
+    c.in-Refused.r (unanswered now a.out.now) (answered now a.line.now a.out.now) (sym c.in-Refused.is ∙ c.admit.ensures)
+
+pub returns-in-Open : goal.returns-in-Open
+unfolding call
+returns-in-Open c =
+    let a = c.args in
+    let now : State = state a.registers a.keys.now a.marks.now in
+    let short = ap (ltb (length a.out.now)) c.room_for.ensures in
+    c.on_ready.ensures
+    ∙ let_in a.registers a.keys.now a.marks.now (room_for a.line.now) a.out.now _ short (sym c.in-Open.is ∙ c.admit.ensures)
+    (unanswered now a.out.now) (answered now a.line.now a.out.now)

@@ -1,0 +1,28 @@
+-- `load` meets its contract: the shared checks lead to a refusal or to the place.
+-- Assumes nothing.
+use Rattle.std.proofs.Common.{◌≡◌, [], sym, ◌∙◌}
+use Rattle.drive.specs.declared.Found.TheVariants as found
+use Rattle.drive.specs.Acting.{state, contents, located}
+use Rattle.drive.proofs.ActingLaws.{found_small, load_refused, load_found}
+use Rattle.drive.proofs.keys.load.Goals as goal
+
+pub load_at-requires : goal.load_at-requires
+load_at-requires c =
+    let a = c.args in
+    let is : found.Place c.in-Place.place ≡ located (state a.registers [] []) a.ns a.tag = sym c.in-Place.is ∙ c.locate.ensures in
+    (found_small a.registers a.keys.now [] a.ns a.tag c.in-Place.place is c.requires.0, c.requires.1, c.requires.0)
+
+pub returns-in-Refused : goal.returns-in-Refused
+returns-in-Refused c =
+    λ marks.
+    let a = c.args in
+    let is : found.Refused c.in-Refused.r ≡ located (state a.registers [] []) a.ns a.tag = sym c.in-Refused.is ∙ c.locate.ensures in
+    rw c.refused.ensures (load_refused a.registers a.keys.now marks a.ns a.tag (contents a.uid.now a.key.now) c.in-Refused.r is)
+
+pub returns-in-Place : goal.returns-in-Place
+returns-in-Place c =
+    λ marks.
+    let a = c.args in
+    let is : found.Place c.in-Place.place ≡ located (state a.registers [] []) a.ns a.tag = sym c.in-Place.is ∙ c.locate.ensures in
+    c.load_at.ensures marks
+    ∙ load_found a.registers a.keys.now marks a.ns a.tag (contents a.uid.now a.key.now) c.in-Place.place is

@@ -1,0 +1,24 @@
+-- `tuffaleen_discovery` meets its contract: too few places, no response, or the numbers.
+-- Assumes nothing.
+use native.Mathlib.Omega.{arith}
+use borrow.Author.Tests.{lt-ltb}
+use Rattle.rules.specs.Answers.{number, 07·16}
+use Rattle.tuffaleen_c.specs.Host.{c_discovery}
+use Rattle.tuffaleen_c.proofs.HostLaws.{done_or_refused, told_refused, told_numbers}
+use Rattle.tuffaleen_c.proofs.tuffaleen_discovery.Goals as goal
+
+pub returns-then-fields-lt-FIELDS_SIZE : goal.returns-then-fields-lt-FIELDS_SIZE
+unfolding c_discovery
+returns-then-fields-lt-FIELDS_SIZE c =
+    rw (lt-ltb _ _ c.if-fields-lt-FIELDS_SIZE.true, c.number.ensures)
+
+pub returns-in-Refused : goal.returns-in-Refused
+returns-in-Refused c =
+    told_refused c.args.bytes.now c.args.fields.now (omega arith) c.read-found.result c.read-found.ensures
+    c.in-Refused.refusal c.in-Refused.is c.number-in-Refused.result c.number-in-Refused.ensures
+
+pub returns : goal.returns
+returns c =
+    let done = done_or_refused c.args.bytes.now c.read-found.result c.read-found.ensures (c.in_default.not-Refused 07·16) in
+    told_numbers c.args.bytes.now c.args.fields.now (omega arith) c.read-found.result c.read-found.ensures done
+    c.number-2.result c.number-2.ensures c.put.new.fields c.put.ensures
