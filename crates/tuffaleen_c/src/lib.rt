@@ -1,5 +1,7 @@
 // The drive for callers in C: the state as one byte image that the caller holds. include/tuffaleen.h declares this, and crates/tuffaleen_archive
 // exports it.
+#![tactic(auto)]
+
 ghost use Rattle.std.specs.Prelude.{◌≡◌, drop};
 ghost use Rattle.tuffaleen_c.specs.Image.{c_start, c_call, c_session};
 ghost use Rattle.tuffaleen_c.specs.Host.{c_discovery};
