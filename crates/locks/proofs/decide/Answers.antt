@@ -2,7 +2,7 @@
 -- and shifts, and each of its three answers is a law of `decided`.
 -- Assumes nothing.
 use mathlib.Core.Path.{◌≡◌, sym, ◌∙◌}
-use mathlib.Core.Bool.{Bool, true, false, ◌||◌, not}
+use mathlib.Core.Bool.{true, false}
 use Prim.Native.Nat.{ℕ, ◌<◌, ◌≤◌, ◌/◌, ◌^◌}
 use lib.Bits.{bit_and}
 use borrow.Author.Tests.{lt-ltb, le-ltb, ne_eqb, eq-eqb}

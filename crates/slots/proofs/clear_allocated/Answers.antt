@@ -2,7 +2,6 @@
 -- Assumes nothing.
 use native.Mathlib.Omega.{arith}
 use mathlib.Core.Path.{◌≡◌, refl, sym, ap, ◌∙◌}
-use Prim.Native.Nat.{◌-◌}
 use Rattle.rules.specs.Numbers.{namespaces}
 use Rattle.slots.specs.Cache.{cleared_first}
 use Rattle.rules.proofs.StateLaws.{wrong_cache_lem}

@@ -3,7 +3,6 @@
 use borrow.Author.Rules.{rules}
 use native.Mathlib.Omega.{arith}
 use mathlib.Core.Path.{refl, sym, ◌∙◌}
-use Prim.Native.Nat.{◌-◌}
 use Rattle.rules.specs.Numbers.{tags_most}
 use Rattle.rules.proofs.SoundLaws.{above_none}
 use Rattle.sound.proofs.ScanLaws.{rest_end, unsound_at, unsound_next}

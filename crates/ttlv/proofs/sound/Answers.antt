@@ -4,8 +4,6 @@ use native.Mathlib.Omega.{arith}
 use mathlib.Core.Path.{refl, sym}
 use mathlib.Core.List.{[]}
 use mathlib.Core.Option.{none, some}
-use Prim.Native.Nat.{◌-◌}
-use lib.ListN.{length}
 use Rattle.ttlv.proofs.MidLaws.{mid_start, mid_end, mid_close, mid_deep, mid_broken, mid_value, mid_open, at_end, end_inside, sound_if}
 use Rattle.ttlv.proofs.sound.Goals as goal
 

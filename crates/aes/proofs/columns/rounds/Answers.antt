@@ -1,7 +1,6 @@
 -- `aes::columns::rounds` meets its contract: so far the state is that of the first r rounds.
 -- Assumes nothing.
 use mathlib.Core.Path.{refl, ap, ap₂, ◌∙◌}
-use Prim.Native.Nat.{◌-◌}
 use native.Mathlib.Omega.{arith}
 use Rattle.aes.specs.ByTables.{round_of, rounds_by}
 use Rattle.aes.proofs.LoopsLaws.{rounds_more}

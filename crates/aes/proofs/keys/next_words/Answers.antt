@@ -1,7 +1,7 @@
 -- `aes::keys::next_words` meets its contract: the first n + 8 words are those of the expansion.
 -- Assumes nothing.
 use mathlib.Core.Path.{refl, sym, ap, ◌∙◌}
-use Prim.Native.Nat.{◌+◌, ◌-◌}
+use Prim.Native.Nat.{◌+◌}
 use native.Mathlib.Omega.{arith}
 use lib.ListN.{take, get_or, length-set}
 use lib.Seq.{take_all}

@@ -1,7 +1,6 @@
 -- `aes::keys::wipe` meets its contract: the first i words are zero, the rest is as it was.
 -- Assumes nothing.
 use mathlib.Core.Path.{ap, ◌∙◌}
-use Prim.Native.Nat.{◌-◌}
 use native.Mathlib.Omega.{arith}
 use lib.ListN.{set, length-set}
 use borrow.Author.Fill.{fill_more}

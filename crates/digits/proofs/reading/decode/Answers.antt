@@ -1,7 +1,7 @@
 -- `reading::decode` meets its contract: after i turns the first i pairs are decoded, and the largest value tells whether one of their digits
 -- is bad.
 -- Assumes nothing.
-use Rattle.std.proofs.Common.{◌≡◌, ◌+◌, ◌-◌, ◌*◌, ◌%◌, set, ap, ◌∙◌, arith, length-set, rules}
+use Rattle.std.proofs.Common.{◌≡◌, ◌+◌, ◌*◌, ◌%◌, set, ap, ◌∙◌, arith, length-set, rules}
 use Rattle.rules.specs.FrameLine.{decoded}
 use Rattle.digits.proofs.ReadingLaws.{Watched, watch_more, watched_all, decode_turn, decode_end}
 use Rattle.digits.proofs.reading.decode.Goals as goal

@@ -1,5 +1,5 @@
 -- Assumes nothing.
-use Rattle.std.proofs.Common.{◌≡◌, ◌+◌, ◌-◌, ◌*◌, ◌/◌, ◌≤◌, ◌++◌, length, take, drop}
+use Rattle.std.proofs.Common.{◌≡◌, ◌-◌, ◌*◌, ◌/◌, ◌≤◌, ◌++◌, length, take, drop}
 use Rattle.rules.specs.FrameLine.{decoded}
 use Rattle.digits.proofs.ReadingLaws.{Watched}
 use Rattle.digits.proofs.reading.decode.Given as goal

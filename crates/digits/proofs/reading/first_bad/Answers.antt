@@ -1,6 +1,6 @@
 -- `reading::first_bad` meets its contract: no digit before i is bad.
 -- Assumes nothing.
-use Rattle.std.proofs.Common.{◌-◌, arith}
+use Rattle.std.proofs.Common.{arith}
 use Rattle.digits.proofs.ReadingLaws.{clean_more, clean_stop, clean_end}
 use Rattle.digits.proofs.reading.first_bad.Goals as goal
 

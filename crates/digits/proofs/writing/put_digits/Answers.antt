@@ -1,6 +1,6 @@
 -- `digits::put_digits` meets its contract: after i bytes their digits stand at the front and the rest is as it was.
 -- Assumes nothing.
-use Rattle.std.proofs.Common.{◌≡◌, ◌+◌, ◌-◌, ◌*◌, length, set, ap, ◌∙◌, arith, length-set, rules}
+use Rattle.std.proofs.Common.{◌≡◌, ◌+◌, ◌*◌, length, set, ap, ◌∙◌, arith, length-set, rules}
 use lib.Seq.{take-length}
 use Rattle.rules.specs.Answers.{digits_of}
 use Rattle.digits.proofs.WritingLaws.{digits_turn}

@@ -2,7 +2,7 @@
 -- Assumes nothing.
 use native.Mathlib.Omega.{arith}
 use mathlib.Core.Path.{◌≡◌, refl, sym, ◌∙◌}
-use Prim.Native.Nat.{◌+◌, ◌-◌, ◌≤◌}
+use Prim.Native.Nat.{◌+◌, ◌≤◌}
 use Rattle.rules.specs.Numbers.{head_size}
 use Rattle.rules.specs.Fields.{byte}
 use Rattle.rules.specs.Discovery.{tper_code, key_per_io_code}

@@ -3,8 +3,7 @@
 use borrow.Author.Tests.{not-true, not-false}
 use native.Mathlib.Omega.{arith}
 use mathlib.Core.Path.{refl, sym, ap, ◌∙◌}
-use mathlib.Core.Bool.{false, ◌&&◌}
-use Prim.Native.Nat.{◌-◌}
+use mathlib.Core.Bool.{◌&&◌}
 use Rattle.rules.specs.Kmip.{from, Attribute}
 use Rattle.kmip.proofs.RunLaws.{run_end}
 use Rattle.kmip.proofs.RowLaws.{hit_structure}

@@ -3,7 +3,6 @@
 use native.Mathlib.Omega.{arith}
 use mathlib.Core.Path.{refl, ◌∙◌, sym}
 use mathlib.Core.Logic.{inl, inr}
-use Prim.Native.Nat.{◌-◌}
 use Rattle.kmip.proofs.RunLaws.{item_fronted, none_at_end, left_none, left_end, left_value, left_value_hit, left_structure, left_structure_hit}
 use Rattle.kmip.proofs.members.find.Goals as goal
 

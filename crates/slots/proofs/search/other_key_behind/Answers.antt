@@ -3,7 +3,6 @@
 use borrow.Author.Rules.{rules}
 use native.Mathlib.Omega.{arith}
 use mathlib.Core.Path.{refl, sym, ◌∙◌}
-use Prim.Native.Nat.{◌-◌}
 use Rattle.sound.proofs.ScanLaws.{rest_end}
 use Rattle.slots.proofs.SearchLaws.{other_at, other_next}
 use Rattle.slots.proofs.search.other_key_behind.Goals as goal

@@ -3,8 +3,7 @@
 use borrow.Author.Rules.{rules}
 use native.Mathlib.Omega.{arith}
 use mathlib.Core.Path.{◌≡◌, refl, sym, ap, ◌∙◌}
-use mathlib.Core.Bool.{false}
-use Prim.Native.Nat.{◌+◌, ◌-◌}
+use Prim.Native.Nat.{◌+◌}
 use Rattle.cells.specs.Predicates.{some_cell}
 use Rattle.cells.proofs.PredicatesLaws.{some_start, some_next, some_hit}
 use Rattle.rules.specs.Numbers.{slot_width}

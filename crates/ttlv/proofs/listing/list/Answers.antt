@@ -2,8 +2,6 @@
 -- Assumes nothing.
 use native.Mathlib.Omega.{arith}
 use mathlib.Core.Path.{refl}
-use Prim.Native.Nat.{◌-◌}
-use lib.ListN.{length}
 use Rattle.ttlv.proofs.ListingLaws.{fill_start, fill_length, fill_end, fill_close, fill_run, Turn, turn_within, turn_broken}
 use Rattle.ttlv.proofs.ListingLaws.{turn_room, value_inside, value_places, value_more, structure_inside, structure_places, structure_more}
 use Rattle.ttlv.proofs.listing.list.Goals as goal

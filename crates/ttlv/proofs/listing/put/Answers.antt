@@ -1,7 +1,6 @@
 -- `put` meets its contract: the five numbers of an item, one after another.
 -- Assumes nothing.
 use native.Mathlib.Omega.{arith}
-use lib.ListN.{length}
 use lib.Seq.{sets-eq}
 use Rattle.ttlv.specs.ItemList.{item}
 use Rattle.ttlv.specs.Listing.{numbers_of}

@@ -2,7 +2,6 @@
 -- Assumes nothing.
 use native.Mathlib.Omega.{arith}
 use mathlib.Core.Path.{refl, sym, ◌∙◌}
-use Prim.Native.Nat.{◌-◌}
 use Rattle.ttlv.specs.Listing.{items_in}
 use Rattle.ttlv.proofs.GoodLaws.{good_depth}
 use Rattle.ttlv.proofs.ItemsInLaws.{item_by, no_item}

@@ -1,7 +1,6 @@
 -- `lay` meets its contract: the pieces so far, and what is left of the items completes the whole.
 -- Assumes nothing.
 use native.Mathlib.Omega.{arith}
-use Prim.Native.Nat.{◌-◌}
 use Rattle.ttlv.specs.Listing.{items_in}
 use Rattle.ttlv.specs.Pieces.{item_no}
 use Rattle.ttlv.proofs.ItemsInLaws.{next_item, no_item}

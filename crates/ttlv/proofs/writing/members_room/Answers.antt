@@ -1,7 +1,6 @@
 -- `members_room` meets its contract: the rooms so far, and those of the deeper items that are left complete the sum.
 -- Assumes nothing.
 use native.Mathlib.Omega.{arith}
-use Prim.Native.Nat.{◌-◌}
 use Rattle.ttlv.specs.Listing.{items_in}
 use Rattle.ttlv.proofs.ItemsInLaws.{item_by, no_item}
 use Rattle.ttlv.proofs.ItemLoopLaws.{members_stop, members_more, members_end}

@@ -2,7 +2,6 @@
 -- Assumes nothing.
 use native.Mathlib.Omega.{arith}
 use mathlib.Core.Path.{◌∙◌}
-use lib.ListN.{length}
 use Rattle.cells.proofs.CellsLaws.{lent_length}
 use Rattle.ttlv.proofs.TreeLaws.{room_value}
 use Rattle.ttlv.proofs.PutLaws.{room_head, piece_head, piece_by, after_head}

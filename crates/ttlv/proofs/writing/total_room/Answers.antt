@@ -1,7 +1,6 @@
 -- `total_room` meets its contract: the rooms so far, and what is left completes the sum.
 -- Assumes nothing.
 use native.Mathlib.Omega.{arith}
-use Prim.Native.Nat.{◌-◌}
 use Rattle.ttlv.specs.Listing.{items_in}
 use Rattle.ttlv.proofs.ItemsInLaws.{item_by, no_item}
 use Rattle.ttlv.proofs.ItemLoopLaws.{room_more, room_end}

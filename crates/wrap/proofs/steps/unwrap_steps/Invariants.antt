@@ -1,6 +1,6 @@
 -- Assumes nothing.
 use mathlib.Core.Path.{◌≡◌}
-use Prim.Native.Nat.{◌-◌, ◌≤◌}
+use Prim.Native.Nat.{◌≤◌}
 use lib.ListN.{length}
 use Rattle.aes.specs.ByTables.{inv_cipher_by}
 use Rattle.wrap.specs.Steps.{unwrap_steps_by}

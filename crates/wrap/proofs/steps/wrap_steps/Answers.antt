@@ -1,7 +1,7 @@
 -- `wrap::steps::wrap_steps` meets its contract: so far the bytes are those of the first t steps.
 -- Assumes nothing.
 use mathlib.Core.Path.{◌≡◌, refl, ap, ◌∙◌}
-use Prim.Native.Nat.{◌+◌, ◌-◌}
+use Prim.Native.Nat.{◌+◌}
 use native.Mathlib.Omega.{arith}
 use Rattle.aes.specs.ByTables.{cipher_by}
 use Rattle.wrap.specs.Steps.{wrap_step_by, wrap_steps_by}
