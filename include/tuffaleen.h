@@ -4,7 +4,7 @@
  * The functions are proved to answer as docs/RULES.md says, for every image, store, line and output
  * that fits the rules under "What the caller promises". Make the library and link it, on x86-64:
  *
- *     rt staticlib tuffaleen_c
+ *     tests/native-library
  *     gcc -Iinclude firmware.c target/staticlib/libtuffaleen_c.a
  *
  * It needs memcpy and memset and nothing else of a C library: no heap, no input or output, no threads. A call takes

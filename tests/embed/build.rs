@@ -1,5 +1,4 @@
-//! Links the proved archive, of target/staticlib or of the folder that TUFFALEEN_STATICLIB names.
-//! Off x86-64 it is the one that tests/native-library makes, in a folder of the machine's name there.
+//! Links the proved archive, of target/staticlib or of the folder that TUFFALEEN_STATICLIB names. It is for x86-64.
 
 use std::env::var_os;
 use std::path::{Path, PathBuf};
@@ -10,11 +9,7 @@ const ARCHIVE: &str = "libtuffaleen_c.a";
 
 fn main() {
     let package = var_os("CARGO_MANIFEST_DIR").unwrap();
-    let mut usual = Path::new(&package).join("../../target/staticlib");
-    let machine = var_os("CARGO_CFG_TARGET_ARCH").unwrap();
-    if machine != "x86_64" {
-        usual.push(machine);
-    }
+    let usual = Path::new(&package).join("../../target/staticlib");
     let folder = var_os(FOLDER).map_or(usual, PathBuf::from);
     let archive = folder.join(ARCHIVE);
     println!("cargo:rerun-if-env-changed={FOLDER}");
