@@ -4,7 +4,8 @@ use mathlib.Core.Path.{refl, ◌∙◌}
 use Rattle.std.specs.Prelude.{◌≡◌, true}
 use Rattle.cells.specs.Cells.{part, write, zeros, copies, cell, put, fill}
 use Rattle.cells.specs.Predicates.{same, all_zero, some_from, some_cell}
-use Rattle.rules.specs.Answers.{fault_of, digits_of, answer_line}
+use Rattle.rules.specs.declared.Answer.TheVariants.{Refused}
+use Rattle.rules.specs.Answers.{07·0F, fault_of, digits_of, answer_line}
 use Rattle.rules.specs.Fields.{little}
 use Rattle.rules.specs.FrameLine.{first_bad, decoded, line_checks}
 use Rattle.rules.specs.Slots.{padded, slot_bytes, uid_of, key_of, held}
@@ -15,9 +16,11 @@ use Rattle.rules.specs.Frames.{command_of, read_load, read_replace, kinds, read_
 use Rattle.rules.specs.Effects.{set_count, store_key, empty_slot, empty_all_slots, mark_covered}
 use Rattle.rules.specs.Order.{manage, release, clear_all, load, replace, clear_one, wrong_key, command}
 use Rattle.rules.specs.Order.{set_features, get_features, boot_write, reset, frame_rule}
-use Rattle.rules.specs.Start.{fresh_registers}
+use Rattle.rules.specs.Start.{fresh_registers, fresh, program_kek}
+use Rattle.rules.specs.Call.{room_for}
+use Rattle.rules.specs.Sessions.{lines_of, room_for_all, no_session, session}
 use Rattle.rules.specs.Examples.{codes, all_right}
-use Rattle.rules.specs.Edges.{edges, orders, EdgesRight}
+use Rattle.rules.specs.Edges.{edges, orders, session_text, EdgesRight}
 use Rattle.rules.proofs.NearLaws.{reach, near, looking, near_rule, near_step}
 use Rattle.rules.proofs.ExamplesLaws.{right_on, all_right_on, all_right_on_lem}
 
@@ -35,5 +38,9 @@ unfolding part write zeros copies cell put fill same all_zero some_from some_cel
     fresh_registers reach near looking near_rule near_step codes right_on all_right_on orders
 orders_are = all_right_on_lem orders ∙ refl
 
+short_session_is : (session (fresh program_kek) session_text (zeros 77)).result ≡ Refused 07·0F
+unfolding session no_session lines_of room_for_all room_for codes zeros copies same
+short_session_is = refl
+
 pub edges_right : EdgesRight
-edges_right = record { edges_right = edges_are; orders_right = orders_are }
+edges_right = record { edges_right = edges_are; orders_right = orders_are; short_session = short_session_is }

@@ -1,9 +1,14 @@
 -- Rows beside the paper's (house): the first values past the last, and the order
 -- of checks, each computed from a fresh drive as the bench table is.
 -- Assumes nothing.
-use Rattle.std.specs.Prelude.{◌≡◌, true, List, [], ◌∷◌}
+use Rattle.std.specs.Prelude.{◌≡◌, true, List, [], ◌∷◌, ℕ}
 use Prim.Native.String.{String}
-use Rattle.rules.specs.Examples.{Entry, ◌answers◌, ◌⁀◌, K, L, command_with, all_right}
+use Rattle.cells.specs.Cells.{zeros}
+use Rattle.rules.specs.declared.Answer.TheVariants.{Refused}
+use Rattle.rules.specs.Answers.{07·0F}
+use Rattle.rules.specs.Start.{fresh, program_kek}
+use Rattle.rules.specs.Sessions.{session}
+use Rattle.rules.specs.Examples.{codes, Entry, ◌answers◌, ◌⁀◌, K, L, command_with, all_right}
 
 -- I/O to namespace 1, block 0 alone, tag 0
 abbrev pub plain : String → String → String
@@ -70,6 +75,12 @@ orders =
     ∷ ("081B000000" answers "0000" ∷ "0844000000" answers "0002" ∷ "0809000000" answers "010E" ∷ "0A02" answers "0002" ∷ "0A00" answers "011E" ∷ [])
     ∷ []
 
+-- the session that the paper gives whole: its six lines ask for 13 bytes each
+abbrev pub session_text : List ℕ
+session_text = codes ("010102\n0301000001AA" ⁀ K ⁀ "\n05010100\n09\n0B01\n05010000\n")
+
 pub record EdgesRight : Type 0 where
   pub edges_right : all_right edges ≡ true
   pub orders_right : all_right orders ≡ true
+  -- with a byte less it is refused
+  pub short_session : (session (fresh program_kek) session_text (zeros 77)).result ≡ Refused 07·0F
