@@ -4,8 +4,8 @@
 use mathlib.Core.Path.{◌≡◌, refl, sym, ap, ◌∙◌}
 use mathlib.Core.List.{List, [], ◌∷◌, ◌++◌}
 use mathlib.Core.Logic.{⊎_elim}
-use Prim.Native.Nat.{ℕ}
-use lib.ListN.{take}
+use Prim.Native.Nat.{ℕ, suc}
+use lib.ListN.{length, take}
 use lib.Seq.{take_at}
 use Rattle.rules.specs.declared.Answer.{Answer}
 use Rattle.rules.specs.declared.Answer.TheVariants.{Done, Refused}
@@ -27,6 +27,7 @@ use Rattle.rules.proofs.ToldLaws.{view_as_told, answer_as_told}
 use Rattle.promises.specs.Leaves.{StartLeaves, SessionLeaves}
 use Rattle.promises.specs.Demands.{Shows, SinceStart, started, unread, no_session_lem, Answers, by_call, in_session, Demands}
 use Rattle.promises.specs.Demands as since
+use Rattle.promises.specs.Shown.{SessionsShow}
 use Rattle.promises.proofs.LeavesLaws.{start_is, call_is, session_is}
 
 -- ------------------------------------------------------------------------
@@ -48,12 +49,12 @@ more h s [] f = f
 more h s (line ∷ lines) f =
     more (record { line = line; answer = (step s line).answer } ∷ h) (step s line).state lines (one_more h s f line)
 
-module _ (s : State) (text out : List ℕ) (o : Session) (l : SessionLeaves s text out o) (answers : List Answer) (shows : Shows o answers) where
+module _ (s : State) (text out : List ℕ) (o : Session) (l : SessionLeaves s text out o) (ran : o.result ≡ Done) where
   passed : AllPass (session_checks s text out)
   passed =
       ⊎_elim
       (λ f. absurd (accepted_not Done f.0 refl
-      (sym shows.ran ∙ (rules.session_refused_when s text out o (session_is s text out o l) f.0).1 f.1.0)))
+      (sym ran ∙ (rules.session_refused_when s text out o (session_is s text out o l) f.0).1 f.1.0)))
       (λ p. p.0)
       (by_verdict (session_checks s text out) Refused Done)
 
@@ -68,8 +69,23 @@ module _ (s : State) (text out : List ℕ) (o : Session) (l : SessionLeaves s te
   unfolding all_answered
   shown_is = ap (λ (x : Session). take x.bytes x.out) is_ran ∙ take_at (answer_lines (answers_to s (lines_of text))) _ _ refl
 
-  answers_are : answers ≡ answers_to s (lines_of text)
-  answers_are = lines_then answers (answers_to s (lines_of text)) shows.sayable (sayable_answers s (lines_of text)) (sym shows.shown ∙ shown_is)
+  answers_are : (answers : List Answer) → Shows o answers → answers ≡ answers_to s (lines_of text)
+  answers_are answers shows =
+      lines_then answers (answers_to s (lines_of text)) shows.sayable (sayable_answers s (lines_of text)) (sym shows.shown ∙ shown_is)
+
+length_answers : (s : State) (lines : List (List ℕ)) → length (answers_to s lines) ≡ length lines
+unfolding answers_to
+length_answers s [] = refl
+length_answers s (line ∷ lines) = ap suc (length_answers (step s line).state lines)
+
+pub sessions_show : SessionsShow
+sessions_show s text out o l ran = (
+  answers_to s (lines_of text),
+  (
+    record { ran = ran; sayable = sayable_answers s (lines_of text); shown = shown_is s text out o l ran },
+    length_answers s (lines_of text),
+  ),
+)
 
 -- ------------------------------------------------------------------------
 -- State and history since the start are those of the same lines from a fresh drive
@@ -81,7 +97,7 @@ from_fresh h s (since.answered h' s' led line out o l p) =
     rw (call_is s' line out o l ∙ call_read s' line out p) (one_more h' s' (from_fresh h' s' led) line)
 from_fresh h s (unread h' s' led line out o l r f) = rw (call_is s' line out o l ∙ call_unread s' line out r f) (from_fresh h' s' led)
 from_fresh h s (since.session h' s' led text out o l answers shows) =
-    rw (answers_are s' text out o l answers shows, end_is s' text out o l answers shows) (more h' s' (lines_of text) (from_fresh h' s' led))
+    rw (answers_are s' text out o l shows.ran answers shows, end_is s' text out o l shows.ran) (more h' s' (lines_of text) (from_fresh h' s' led))
 from_fresh h s (no_session_lem h' s' led text out o l r e) =
     rw (rules.session_refused_keeps s' text out o (session_is s' text out o l) r e) (from_fresh h' s' led)
 
@@ -91,7 +107,7 @@ unfolding answered
 steps h s line answer (by_call h' s' led line' out o l p) =
     (from_fresh h' s' led, ap (λ (x : Called). x.answer) (call_is s' line' out o l ∙ call_read s' line' out p))
 steps h s line answer (in_session h' s' led text out o l before after line' cut earlier later answer' n shows) =
-    let all = answers_are s' text out o l (earlier ++ (answer' ∷ later)) shows in
+    let all = answers_are s' text out o l shows.ran (earlier ++ (answer' ∷ later)) shows in
     let split = split_answers s' before after line' earlier later answer' n (ap (answers_to s') (sym cut) ∙ sym all) in
     (rw split.0 (more h' s' before (from_fresh h' s' led)), split.1)
 

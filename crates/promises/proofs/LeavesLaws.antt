@@ -1,5 +1,6 @@
--- What start, the call, the session, and discovery's writer and reader leave is
--- what `rules` says: their contracts, at the values that went in.
+-- What start, the call, the session, discovery's writer and reader, and the three
+-- calls from C for an office and a courier leave is what the definitions say: their
+-- contracts, at the values that went in.
 -- Assumes nothing.
 use mathlib.Core.Path.{◌≡◌, ap, ◌∙◌}
 use mathlib.Core.List.{List}
@@ -11,6 +12,11 @@ use Rattle.rules.specs.Sessions.{Session, session}
 use Rattle.rules.specs.declared.DiscoveryFields.{DiscoveryFields}
 use Rattle.rules.specs.declared.Discovered.{Discovered}
 use Rattle.rules.specs.Discovering.{Responded, respond, discovered}
+use lib.ListN.{drop}
+use Rattle.rules.specs.KeyWrap.{wrap}
+use Rattle.tuffaleen_c.specs.Office.{CMessage, c_message}
+use Rattle.tuffaleen_c.specs.Courier.{CUnwrapped, c_unwrap}
+use Rattle.promises.specs.Leaves.{MessageLeaves, WrapLeaves, UnwrapLeaves}
 use Rattle.promises.specs.Leaves.{StartLeaves, CallLeaves, SessionLeaves, ResponseLeaves, ReadFinds}
 
 all_same : {A B C D : Type 0} (f : A → B → C → D) {a a' : A} {b b' : B} {c c' : C} → a ≡ a' → b ≡ b' → c ≡ c'
@@ -38,3 +44,17 @@ response_is f out o l = l.leaves ∙ l.run.meets ∙ both_same respond l.on_fiel
 
 pub finding_is : (d : List ℕ) (o : Discovered) → ReadFinds d o → o ≡ discovered d
 finding_is d o l = l.leaves ∙ l.run.meets ∙ ap discovered l.on_bytes
+
+pub wrapped_is : (kek bytes left : List ℕ) → WrapLeaves kek bytes left → left ≡ wrap kek (drop 8 bytes)
+wrapped_is kek bytes left l = l.leaves ∙ l.run.meets.0 ∙ both_same (λ k b. wrap k (drop 8 b)) l.on_kek l.on_bytes
+
+pub unwrapped_is : (kek bytes : List ℕ) (o : CUnwrapped) → UnwrapLeaves kek bytes o → o ≡ c_unwrap kek bytes
+unwrapped_is kek bytes o l = l.leaves ∙ l.run.meets.0 ∙ both_same c_unwrap l.on_kek l.on_bytes
+
+five_same : {A B C D E F : Type 0} (f : A → B → C → D → E → F) {a a' : A} {b b' : B} {c c' : C} {d d' : D} {e e' : E}
+    → a ≡ a' → b ≡ b' → c ≡ c' → d ≡ d' → e ≡ e' → f a b c d e ≡ f a' b' c' d' e'
+five_same f p q r s t = cc
+
+pub message_is : (ns tag : ℕ) (uid key out : List ℕ) (o : CMessage) → MessageLeaves ns tag uid key out o → o ≡ c_message ns tag uid key out
+message_is ns tag uid key out o l =
+    l.leaves ∙ l.run.meets ∙ five_same c_message l.on_namespace l.on_tag l.on_uid l.on_key l.on_out

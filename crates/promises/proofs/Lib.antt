@@ -3,3 +3,5 @@ pub mod LeavesLaws
 pub mod Demands
 pub mod Discovery
 pub mod Defined
+pub mod Courier
+pub mod Office

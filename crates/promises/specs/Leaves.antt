@@ -1,6 +1,7 @@
 -- What a run of `drive::start`, of `drive::answer_line` (a call for one line), of
--- `drive::answer_session`, and of `discovery::write` and `discovery::read` leaves:
--- values that meet the function's contract.
+-- `drive::answer_session`, of `discovery::write` and `discovery::read`, and of
+-- `tuffaleen_wrap`, `tuffaleen_unwrap` and `tuffaleen_message` leaves: values that
+-- meet the function's contract.
 -- In `args` and `exit`, .0 is the first parameter, .1 .0 the second, and so on.
 -- Assumes nothing.
 use Rattle.std.specs.Prelude.{◌≡◌, List, ℕ}
@@ -13,6 +14,11 @@ use Rattle.rules.specs.Discovering.{Responded}
 use Rattle.discovery.proofs.write.Reads as discovery-write
 use Rattle.discovery.proofs.read.Reads as discovery-read
 use Rattle.drive.specs.Acting.{state, outcome}
+use Rattle.tuffaleen_c.specs.Courier.{CUnwrapped}
+use Rattle.tuffaleen_c.specs.Office.{CMessage}
+use Rattle.tuffaleen_c.proofs.tuffaleen_message.Reads as tuffaleen-c-message
+use Rattle.tuffaleen_c.proofs.tuffaleen_wrap.Reads as tuffaleen-c-wrap
+use Rattle.tuffaleen_c.proofs.tuffaleen_unwrap.Reads as tuffaleen-c-unwrap
 use Rattle.drive.proofs.start.Reads as drive-start
 use Rattle.drive.proofs.answer_line.Reads as drive-answer-line
 use Rattle.drive.proofs.answer_session.Reads as drive-answer-session
@@ -73,3 +79,27 @@ pub record ReadFinds (d : List ℕ) (o : Discovered) : Type 0 where
   pub run : Run discovery-read.Learnt
   pub on_bytes : run.args.0.now ≡ d
   pub leaves : o ≡ run.result
+
+-- tuffaleen_wrap(kek, bytes, words), on bytes that end with the key
+pub record WrapLeaves (kek bytes left : List ℕ) : Type 0 where
+  pub run : Run tuffaleen-c-wrap.Learnt
+  pub on_kek : run.args.0.now ≡ kek
+  pub on_bytes : run.args.1.0.now ≡ bytes
+  pub leaves : left ≡ run.exit.1.0.now
+
+-- tuffaleen_unwrap(kek, bytes, words)
+pub record UnwrapLeaves (kek bytes : List ℕ) (o : CUnwrapped) : Type 0 where
+  pub run : Run tuffaleen-c-unwrap.Learnt
+  pub on_kek : run.args.0.now ≡ kek
+  pub on_bytes : run.args.1.0.now ≡ bytes
+  pub leaves : o ≡ record { number = run.result; bytes = run.exit.1.0.now }
+
+-- tuffaleen_message(namespace, tag, uid, key, out, written)
+pub record MessageLeaves (ns tag : ℕ) (uid key out : List ℕ) (o : CMessage) : Type 0 where
+  pub run : Run tuffaleen-c-message.Learnt
+  pub on_namespace : run.args.0 ≡ ns
+  pub on_tag : run.args.1.0 ≡ tag
+  pub on_uid : run.args.1.1.0.now ≡ uid
+  pub on_key : run.args.1.1.1.0.now ≡ key
+  pub on_out : run.args.1.1.1.1.0.now ≡ out
+  pub leaves : o ≡ record { number = run.result; bytes = run.exit.1.1.1.1.1.0.now; out = run.exit.1.1.1.1.0.now }

@@ -1,5 +1,8 @@
 pub mod Tight
 pub mod Leaves
 pub mod Demands
+pub mod Shown
 pub mod Discovery
 pub mod Defined
+pub mod Courier
+pub mod Office
