@@ -25,7 +25,7 @@ use Rattle.rules.proofs.CallLaws.{call_unread, call_read, session_ran}
 use Rattle.rules.proofs.Promised as rules
 use Rattle.rules.proofs.ToldLaws.{view_as_told, answer_as_told}
 use Rattle.promises.specs.Leaves.{StartLeaves, SessionLeaves}
-use Rattle.promises.specs.Demands.{Shows, SinceStart, started, unread, no_session_lem, Answers, by_call, in_session, Demands}
+use Rattle.promises.specs.Demands.{Shows, SinceStart, started, unread, no_session, Answers, by_call, in_session, Demands}
 use Rattle.promises.specs.Demands as since
 use Rattle.promises.specs.Shown.{SessionsShow}
 use Rattle.promises.proofs.LeavesLaws.{start_is, call_is, session_is}
@@ -98,7 +98,7 @@ from_fresh h s (since.answered h' s' led line out o l p) =
 from_fresh h s (unread h' s' led line out o l r f) = rw (call_is s' line out o l ∙ call_unread s' line out r f) (from_fresh h' s' led)
 from_fresh h s (since.session h' s' led text out o l answers shows) =
     rw (answers_are s' text out o l shows.ran answers shows, end_is s' text out o l shows.ran) (more h' s' (lines_of text) (from_fresh h' s' led))
-from_fresh h s (no_session_lem h' s' led text out o l r e) =
+from_fresh h s (no_session h' s' led text out o l r e) =
     rw (rules.session_refused_keeps s' text out o (session_is s' text out o l) r e) (from_fresh h' s' led)
 
 -- a line that is answered takes one step

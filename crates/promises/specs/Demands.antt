@@ -42,7 +42,7 @@ pub data SinceStart : List Event → State → Type 0 where
       → (text out : List ℕ) (o : Session) → SessionLeaves s text out o
       → (answers : List Answer) → Shows o answers
       → SinceStart (told (lines_of text) answers h) o.state
-  no_session_lem : (h : List Event) (s : State) → SinceStart h s
+  no_session : (h : List Event) (s : State) → SinceStart h s
       → (text out : List ℕ) (o : Session) → SessionLeaves s text out o → (r : Refusal) → o.result ≡ Refused r
       → SinceStart h o.state
 

@@ -27,31 +27,37 @@ returns-then-bytes-end c =
 
 pub found-requires : goal.found-requires
 found-requires c =
-    let ends : ((header_size ≤ end_of c.args.bytes.now) × (end_of c.args.bytes.now ≤ length c.args.bytes.now)) = (omega (arith, c.dword.ensures), omega (arith, c.dword.ensures)) in
-    let told : ((r : Walked) → c.walk.result ≡ r → WalkedTo c.args.bytes.now (end_of c.args.bytes.now) r) = λ r is. subst (λ n. WalkedTo c.args.bytes.now (length_size + n) r) c.dword.ensures
+    let ends : ((header_size ≤ end_of c.args.bytes.now) × (end_of c.args.bytes.now ≤ length c.args.bytes.now)) =
+    (omega (arith, c.dword.ensures), omega (arith, c.dword.ensures)) in
+    let told : ((r : Walked) → c.walk.result ≡ r → WalkedTo c.args.bytes.now (end_of c.args.bytes.now) r) =
+    λ r is. subst (λ n. WalkedTo c.args.bytes.now (length_size + n) r) c.dword.ensures
     (subst (λ v. WalkedTo c.args.bytes.now (length_size + c.dword.result) v) is c.walk.ensures) in
     let d = c.args.bytes.now in
     let found = told (Places c.in-Places.tper c.in-Places.key_per_io) c.in-Places.is in (
       omega arith,
       (
-        lies_within d (end_of d) c.in-Places.tper (ends).1 found.1.0.lies,
-        lies_within d (end_of d) c.in-Places.key_per_io (ends).1 found.1.1.lies,
+        lies_within d (end_of d) c.in-Places.tper ends.1 found.1.0.lies,
+        lies_within d (end_of d) c.in-Places.key_per_io ends.1 found.1.1.lies,
       ),
     )
 
 pub returns-in-Places : goal.returns-in-Places
 returns-in-Places c =
-    let ends : ((header_size ≤ end_of c.args.bytes.now) × (end_of c.args.bytes.now ≤ length c.args.bytes.now)) = (omega (arith, c.dword.ensures), omega (arith, c.dword.ensures)) in
-    let told : ((r : Walked) → c.walk.result ≡ r → WalkedTo c.args.bytes.now (end_of c.args.bytes.now) r) = λ r is. subst (λ n. WalkedTo c.args.bytes.now (length_size + n) r) c.dword.ensures
+    let ends : ((header_size ≤ end_of c.args.bytes.now) × (end_of c.args.bytes.now ≤ length c.args.bytes.now)) =
+    (omega (arith, c.dword.ensures), omega (arith, c.dword.ensures)) in
+    let told : ((r : Walked) → c.walk.result ≡ r → WalkedTo c.args.bytes.now (end_of c.args.bytes.now) r) =
+    λ r is. subst (λ n. WalkedTo c.args.bytes.now (length_size + n) r) c.dword.ensures
     (subst (λ v. WalkedTo c.args.bytes.now (length_size + c.dword.result) v) is c.walk.ensures) in
     let found = told (Places c.in-Places.tper c.in-Places.key_per_io) c.in-Places.is in
     c.found.ensures
-    ∙ found_at c.args.bytes.now (omega arith) (ends).0 (ends).1 c.in-Places.tper c.in-Places.key_per_io found
+    ∙ found_at c.args.bytes.now (omega arith) ends.0 ends.1 c.in-Places.tper c.in-Places.key_per_io found
 
 pub returns-in-RunsPast : goal.returns-in-RunsPast
 returns-in-RunsPast c =
-    let ends : ((header_size ≤ end_of c.args.bytes.now) × (end_of c.args.bytes.now ≤ length c.args.bytes.now)) = (omega (arith, c.dword.ensures), omega (arith, c.dword.ensures)) in
-    let told : ((r : Walked) → c.walk.result ≡ r → WalkedTo c.args.bytes.now (end_of c.args.bytes.now) r) = λ r is. subst (λ n. WalkedTo c.args.bytes.now (length_size + n) r) c.dword.ensures
+    let ends : ((header_size ≤ end_of c.args.bytes.now) × (end_of c.args.bytes.now ≤ length c.args.bytes.now)) =
+    (omega (arith, c.dword.ensures), omega (arith, c.dword.ensures)) in
+    let told : ((r : Walked) → c.walk.result ≡ r → WalkedTo c.args.bytes.now (end_of c.args.bytes.now) r) =
+    λ r is. subst (λ n. WalkedTo c.args.bytes.now (length_size + n) r) c.dword.ensures
     (subst (λ v. WalkedTo c.args.bytes.now (length_size + c.dword.result) v) is c.walk.ensures) in
     c.nothing_found-in-RunsPast.ensures
-    ∙ runs_past c.args.bytes.now (omega arith) (ends).0 (ends).1 (told RunsPast c.in-RunsPast.is)
+    ∙ runs_past c.args.bytes.now (omega arith) ends.0 ends.1 (told RunsPast c.in-RunsPast.is)

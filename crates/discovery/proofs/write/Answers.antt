@@ -24,16 +24,16 @@ slice_bounds-copy-end-2 c =
 pub returns : goal.returns
 unfolding respond
 returns c =
-    let header_size_lem : (length c.header_bytes-header_bytes.result ≡ header_size) = search rules in
-    let tper_size_lem : (length c.tper_bytes-tper_bytes.result ≡ tper_size) = search rules in
-    let key_per_io_size_lem : (length c.key_per_io_bytes-key_per_io_bytes.result ≡ key_per_io_size) = search rules in
+    let header_size_lem : length c.header_bytes-header_bytes.result ≡ header_size = search rules in
+    let tper_size_lem : length c.tper_bytes-tper_bytes.result ≡ tper_size = search rules in
+    let key_per_io_size_lem : length c.key_per_io_bytes-key_per_io_bytes.result ≡ key_per_io_size = search rules in
     let out = c.args.out.now in
     let x = c.header_bytes-header_bytes.result in
     let y = c.tper_bytes-tper_bytes.result in
     let z = c.key_per_io_bytes-key_per_io_bytes.result in
     rw (le-ltb (length out) discovery_size (omega arith))
     (ap {B = Responded} (λ o. record { answer = Done; out = o })
-    (three_parts header_size tper_size key_per_io_size out x y z (header_size_lem) (tper_size_lem) (key_per_io_size_lem) (omega arith)
+    (three_parts header_size tper_size key_per_io_size out x y z header_size_lem tper_size_lem key_per_io_size_lem (omega arith)
     c.copy.ensures c.copy-2.ensures c.copy-3.ensures
-    ∙ responded c.args.fields out x y z (header_size_lem) (tper_size_lem) (key_per_io_size_lem)
+    ∙ responded c.args.fields out x y z header_size_lem tper_size_lem key_per_io_size_lem
     c.header_bytes-header_bytes.ensures c.tper_bytes-tper_bytes.ensures c.key_per_io_bytes-key_per_io_bytes.ensures))

@@ -10,11 +10,11 @@ use Rattle.drive.proofs.answer_line.Goals as goal
 
 pub on_ready-requires : goal.on_ready-requires
 on_ready-requires c =
-    let counted : (length c.args.registers.counts ≡ namespaces) = search rules in
+    let counted : length c.args.registers.counts ≡ namespaces = search rules in
     let a = c.args in
     let short = ap (ltb (length a.out.now)) c.room_for.ensures in
     let e = sym c.in-Open.is ∙ c.admit.ensures in (
-      ready a.registers a.keys.now a.marks.now _ a.out.now _ short e (counted),
+      ready a.registers a.keys.now a.marks.now _ a.out.now _ short e counted,
       has_room a.registers a.keys.now a.marks.now _ a.out.now _ short e,
     )
 

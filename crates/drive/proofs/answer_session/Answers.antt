@@ -10,10 +10,10 @@ use Rattle.drive.proofs.answer_session.Goals as goal
 
 pub run-requires : goal.run-requires
 run-requires c =
-    let counted : (length c.args.registers.counts ≡ namespaces) = search rules in
+    let counted : length c.args.registers.counts ≡ namespaces = search rules in
     let a = c.args in
     let e = sym c.in-Open.is ∙ c.admit.ensures in (
-      ready a.registers a.keys.now a.marks.now _ a.out.now _ c.need_more_than-short.ensures e (counted),
+      ready a.registers a.keys.now a.marks.now _ a.out.now _ c.need_more_than-short.ensures e counted,
       has_room a.registers a.keys.now a.marks.now _ a.out.now _ c.need_more_than-short.ensures e,
     )
 

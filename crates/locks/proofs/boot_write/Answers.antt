@@ -15,29 +15,29 @@ returns-then-partition-gt1 c = simp (lt-ltb _ _ c.if-partition-gt1.true)
 pub returns-in-WriteUnlocked : goal.returns-in-WriteUnlocked
 unfolding boot_written
 returns-in-WriteUnlocked c =
-    let lock_is : (c.if-partition-eq0.lock ≡ partition c.args.partition c.args.locks) =
+    let lock_is : c.if-partition-eq0.lock ≡ partition c.args.partition c.args.locks =
     elim c.if-partition-eq0.branch [
       | then-partition-eq0 w ↦ w.lock-is ∙ sym (rw (eq-eqb _ _ w.if-partition-eq0.true))
       | else-partition-eq0 w ↦ w.lock-is ∙ sym (rw (ne_eqb _ _ w.if-partition-eq0.false))
     ] in
-    simp (le-ltb _ _ c.if-partition-gt1.false, sym (lock_is) ∙ c.in-WriteUnlocked.is)
+    simp (le-ltb _ _ c.if-partition-gt1.false, sym lock_is ∙ c.in-WriteUnlocked.is)
 
 pub returns-in-WriteLocked : goal.returns-in-WriteLocked
 unfolding boot_written
 returns-in-WriteLocked c =
-    let lock_is : (c.if-partition-eq0.lock ≡ partition c.args.partition c.args.locks) =
+    let lock_is : c.if-partition-eq0.lock ≡ partition c.args.partition c.args.locks =
     elim c.if-partition-eq0.branch [
       | then-partition-eq0 w ↦ w.lock-is ∙ sym (rw (eq-eqb _ _ w.if-partition-eq0.true))
       | else-partition-eq0 w ↦ w.lock-is ∙ sym (rw (ne_eqb _ _ w.if-partition-eq0.false))
     ] in
-    simp (le-ltb _ _ c.if-partition-gt1.false, sym (lock_is) ∙ c.in-WriteLocked.is)
+    simp (le-ltb _ _ c.if-partition-gt1.false, sym lock_is ∙ c.in-WriteLocked.is)
 
 pub returns-in-WriteLockedUntilPowerCycle : goal.returns-in-WriteLockedUntilPowerCycle
 unfolding boot_written
 returns-in-WriteLockedUntilPowerCycle c =
-    let lock_is : (c.if-partition-eq0.lock ≡ partition c.args.partition c.args.locks) =
+    let lock_is : c.if-partition-eq0.lock ≡ partition c.args.partition c.args.locks =
     elim c.if-partition-eq0.branch [
       | then-partition-eq0 w ↦ w.lock-is ∙ sym (rw (eq-eqb _ _ w.if-partition-eq0.true))
       | else-partition-eq0 w ↦ w.lock-is ∙ sym (rw (ne_eqb _ _ w.if-partition-eq0.false))
     ] in
-    simp (le-ltb _ _ c.if-partition-gt1.false, sym (lock_is) ∙ c.in-WriteLockedUntilPowerCycle.is)
+    simp (le-ltb _ _ c.if-partition-gt1.false, sym lock_is ∙ c.in-WriteLockedUntilPowerCycle.is)

@@ -28,7 +28,11 @@ returns-then-n-lt1 c =
 pub returns-then-n-gt-NAMESPACES : goal.returns-then-n-gt-NAMESPACES
 unfolding cleared_up_to
 returns-then-n-gt-NAMESPACES c =
-    rw (right_cache c.args.keys.now c.if-keys-ne-CACHE_SIZE.false, le-ltb c.args.ns.0 1 c.if-n-lt1.false, lt-ltb namespaces c.args.ns.0 c.if-n-gt-NAMESPACES.true)
+    rw (
+      right_cache c.args.keys.now c.if-keys-ne-CACHE_SIZE.false,
+      le-ltb c.args.ns.0 1 c.if-n-lt1.false,
+      lt-ltb namespaces c.args.ns.0 c.if-n-gt-NAMESPACES.true,
+    )
 
 pub returns : goal.returns
 returns c =

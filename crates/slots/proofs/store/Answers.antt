@@ -44,4 +44,5 @@ pub returns : goal.returns
 returns c =
     back_put slot_width c.args.place _ c.args.keys.now
     ∙ ap (λ v. put slot_width c.args.place v c.args.keys.now) c.set_slot.ensures
-    ∙ sym (stored_short c.args.keys.now c.if-keys-ne-CACHE_SIZE.false c.args.place _ c.if-place-ge-SLOT_PLACES.false c.if-uid-gt-UID_MOST.false c.if-key-ne-KEY_SIZE.false)
+    ∙ sym (stored_short c.args.keys.now c.if-keys-ne-CACHE_SIZE.false c.args.place _ c.if-place-ge-SLOT_PLACES.false c.if-uid-gt-UID_MOST.false
+    c.if-key-ne-KEY_SIZE.false)

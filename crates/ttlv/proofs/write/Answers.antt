@@ -34,7 +34,7 @@ returns-then-not-good_list c =
     omega arith in
     let s = c.args in
     let no = sym c.good_list.ensures ∙ c.if-not-good_list.true in
-    wrote_bad s.items.now s.count s.values.now s.out.now c.if-count-gt-ITEMS_MOST.false c.if-items-count.false (room) no
+    wrote_bad s.items.now s.count s.values.now s.out.now c.if-count-gt-ITEMS_MOST.false c.if-items-count.false room no
 
 pub returns-then-n-ge-LENGTHS : goal.returns-then-n-ge-LENGTHS
 returns-then-n-ge-LENGTHS c =
@@ -45,7 +45,7 @@ returns-then-n-ge-LENGTHS c =
     good_from (length s.values.now) 1 (items_in s.count s.items.now) ≡ true) = sym c.good_list.ensures ∙ c.if-not-good_list.false in
     let s = c.args in
     let n = c.total_room-n.ensures in
-    wrote_long s.items.now s.count s.values.now s.out.now c.if-count-gt-ITEMS_MOST.false c.if-items-count.false (room) (good) (omega arith)
+    wrote_long s.items.now s.count s.values.now s.out.now c.if-count-gt-ITEMS_MOST.false c.if-items-count.false room good (omega arith)
 
 pub lay-n-requires : goal.lay-n-requires
 lay-n-requires c =
@@ -59,7 +59,7 @@ lay-n-requires c =
     let is = items_in s.count s.items.now in
     record {
       enough = record { few = c.if-count-gt-ITEMS_MOST.false; there = c.if-items-count.false };
-      inside = good_inside s.values.now is (good_from_lem s.values.now 1 is (good));
+      inside = good_inside s.values.now is (good_from_lem s.values.now 1 is good);
       room = room;
       fits = omega arith;
     }
@@ -73,5 +73,5 @@ returns c =
     good_from (length s.values.now) 1 (items_in s.count s.items.now) ≡ true) = sym c.good_list.ensures ∙ c.if-not-good_list.false in
     let s = c.args in
     let n = c.total_room-n.ensures in
-    wrote_all s.items.now s.count s.values.now s.out.now c.if-count-gt-ITEMS_MOST.false c.if-items-count.false (room) (good) (omega arith)
+    wrote_all s.items.now s.count s.values.now s.out.now c.if-count-gt-ITEMS_MOST.false c.if-items-count.false room good (omega arith)
     c.lay-n.result c.lay-n.new.out c.lay-n.ensures

@@ -22,7 +22,7 @@ loop-i-preserved c =
     let e : (l.i + 1) * 2 ≡ l.i * 2 + 1 + 1 = omega arith in (
       ap (λ f. set f l.i (c.value-high.result % 16 * 16 + c.value-low.result % 16)) l.invariant.0
           ∙ (rw (c.value-high.ensures.low, c.value-low.ensures.low) (decode_turn line l.i c.args.frame.now (omega arith) (omega arith))),
-      (rw e (watched)),
+      (rw e watched),
       omega arith,
       l.invariant.3,
       (simp length-set l.invariant.4),

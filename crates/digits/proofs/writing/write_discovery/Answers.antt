@@ -11,11 +11,13 @@ use Rattle.digits.proofs.writing.write_discovery.Goals as goal
 pub slice_bounds-write_line-end : goal.slice_bounds-write_line-end
 unfolding zeros
 slice_bounds-write_line-end c =
-    let bytes : (answer_bytes Discovery ≡ 0 ∷ 0 ∷ (c.write.new.out ++ [])) = discovery_bytes c.own_fields-fields.result c.write.new.out c.own_fields-fields.ensures (ap (λ (w : Responded). w.out) c.write.ensures) in
-    sym discovery_length ∙ ap length (bytes)
+    let bytes : (answer_bytes Discovery ≡ 0 ∷ 0 ∷ (c.write.new.out ++ [])) =
+    discovery_bytes c.own_fields-fields.result c.write.new.out c.own_fields-fields.ensures (ap (λ (w : Responded). w.out) c.write.ensures) in
+    sym discovery_length ∙ ap length bytes
 
 pub returns : goal.returns
 unfolding zeros
 returns c =
-    let bytes : (answer_bytes Discovery ≡ 0 ∷ 0 ∷ (c.write.new.out ++ [])) = discovery_bytes c.own_fields-fields.result c.write.new.out c.own_fields-fields.ensures (ap (λ (w : Responded). w.out) c.write.ensures) in
-    c.write_line.ensures Discovery (bytes)
+    let bytes : (answer_bytes Discovery ≡ 0 ∷ 0 ∷ (c.write.new.out ++ [])) =
+    discovery_bytes c.own_fields-fields.result c.write.new.out c.own_fields-fields.ensures (ap (λ (w : Responded). w.out) c.write.ensures) in
+    c.write_line.ensures Discovery bytes

@@ -10,33 +10,39 @@ use Rattle.discovery.proofs.reading.found.Goals as goal
 
 pub slice_bounds-tper_in-count : goal.slice_bounds-tper_in-count
 slice_bounds-tper_in-count c =
-    let tper_ends : ((c.args.t ≤ c.feature_end-tper_end.result) × (c.feature_end-tper_end.result ≤ length c.args.d.now)) = rw c.feature_end-tper_end.ensures (found_ends c.args.t c.args.d.now c.requires.1.0) in
-    omega (arith, (tper_ends).0)
+    let tper_ends : ((c.args.t ≤ c.feature_end-tper_end.result) × (c.feature_end-tper_end.result ≤ length c.args.d.now)) =
+    rw c.feature_end-tper_end.ensures (found_ends c.args.t c.args.d.now c.requires.1.0) in
+    omega (arith, tper_ends.0)
 
 pub slice_bounds-tper_in-start : goal.slice_bounds-tper_in-start
 slice_bounds-tper_in-start c =
-    let tper_ends : ((c.args.t ≤ c.feature_end-tper_end.result) × (c.feature_end-tper_end.result ≤ length c.args.d.now)) = rw c.feature_end-tper_end.ensures (found_ends c.args.t c.args.d.now c.requires.1.0) in
-    omega (arith, (tper_ends).0)
+    let tper_ends : ((c.args.t ≤ c.feature_end-tper_end.result) × (c.feature_end-tper_end.result ≤ length c.args.d.now)) =
+    rw c.feature_end-tper_end.ensures (found_ends c.args.t c.args.d.now c.requires.1.0) in
+    omega (arith, tper_ends.0)
 
 pub slice_bounds-tper_in-end : goal.slice_bounds-tper_in-end
 slice_bounds-tper_in-end c =
-    let tper_ends : ((c.args.t ≤ c.feature_end-tper_end.result) × (c.feature_end-tper_end.result ≤ length c.args.d.now)) = rw c.feature_end-tper_end.ensures (found_ends c.args.t c.args.d.now c.requires.1.0) in
-    omega (arith, (tper_ends).1)
+    let tper_ends : ((c.args.t ≤ c.feature_end-tper_end.result) × (c.feature_end-tper_end.result ≤ length c.args.d.now)) =
+    rw c.feature_end-tper_end.ensures (found_ends c.args.t c.args.d.now c.requires.1.0) in
+    omega (arith, tper_ends.1)
 
 pub slice_bounds-key_per_io_in-count : goal.slice_bounds-key_per_io_in-count
 slice_bounds-key_per_io_in-count c =
-    let key_per_io_ends : ((c.args.k ≤ c.feature_end-key_per_io_end.result) × (c.feature_end-key_per_io_end.result ≤ length c.args.d.now)) = rw c.feature_end-key_per_io_end.ensures (found_ends c.args.k c.args.d.now c.requires.1.1) in
-    omega (arith, (key_per_io_ends).0)
+    let key_per_io_ends : ((c.args.k ≤ c.feature_end-key_per_io_end.result) × (c.feature_end-key_per_io_end.result ≤ length c.args.d.now)) =
+    rw c.feature_end-key_per_io_end.ensures (found_ends c.args.k c.args.d.now c.requires.1.1) in
+    omega (arith, key_per_io_ends.0)
 
 pub slice_bounds-key_per_io_in-start : goal.slice_bounds-key_per_io_in-start
 slice_bounds-key_per_io_in-start c =
-    let key_per_io_ends : ((c.args.k ≤ c.feature_end-key_per_io_end.result) × (c.feature_end-key_per_io_end.result ≤ length c.args.d.now)) = rw c.feature_end-key_per_io_end.ensures (found_ends c.args.k c.args.d.now c.requires.1.1) in
-    omega (arith, (key_per_io_ends).0)
+    let key_per_io_ends : ((c.args.k ≤ c.feature_end-key_per_io_end.result) × (c.feature_end-key_per_io_end.result ≤ length c.args.d.now)) =
+    rw c.feature_end-key_per_io_end.ensures (found_ends c.args.k c.args.d.now c.requires.1.1) in
+    omega (arith, key_per_io_ends.0)
 
 pub slice_bounds-key_per_io_in-end : goal.slice_bounds-key_per_io_in-end
 slice_bounds-key_per_io_in-end c =
-    let key_per_io_ends : ((c.args.k ≤ c.feature_end-key_per_io_end.result) × (c.feature_end-key_per_io_end.result ≤ length c.args.d.now)) = rw c.feature_end-key_per_io_end.ensures (found_ends c.args.k c.args.d.now c.requires.1.1) in
-    omega (arith, (key_per_io_ends).1)
+    let key_per_io_ends : ((c.args.k ≤ c.feature_end-key_per_io_end.result) × (c.feature_end-key_per_io_end.result ≤ length c.args.d.now)) =
+    rw c.feature_end-key_per_io_end.ensures (found_ends c.args.k c.args.d.now c.requires.1.1) in
+    omega (arith, key_per_io_ends.1)
 
 pub returns : goal.returns
 returns c =

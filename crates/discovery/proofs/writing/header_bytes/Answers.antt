@@ -16,5 +16,5 @@ slice_bounds-bytes-end-2 c = rw c.copy.ensures (omega arith)
 pub returns : goal.returns
 unfolding header_bytes zeros
 returns c =
-    let vendor : (length c.args.h.vendor_specific ≡ vendor_specific_size) = search rules in
+    let vendor : length c.args.h.vendor_specific ≡ vendor_specific_size = search rules in
     rw (c.copy-2.ensures, c.copy.ensures, vendor, append-nil c.args.h.vendor_specific)

@@ -8,32 +8,32 @@ use Rattle.drive.proofs.act.act.Goals as goal
 
 pub load-requires : goal.load-requires
 load-requires c =
-    let sound : (Sound c.args.registers c.args.keys.now) = sym (sound_keys c.args.registers c.args.keys.now c.args.marks.now) ∙ c.requires.0.sound in
+    let sound : Sound c.args.registers c.args.keys.now = sym (sound_keys c.args.registers c.args.keys.now c.args.marks.now) ∙ c.requires.0.sound in
     (sound, rw c.in-Load.is at c.requires.1)
 
 pub load-requires-in-LoadWrapped : goal.load-requires-in-LoadWrapped
 load-requires-in-LoadWrapped c =
-    let sound : (Sound c.args.registers c.args.keys.now) = sym (sound_keys c.args.registers c.args.keys.now c.args.marks.now) ∙ c.requires.0.sound in
+    let sound : Sound c.args.registers c.args.keys.now = sym (sound_keys c.args.registers c.args.keys.now c.args.marks.now) ∙ c.requires.0.sound in
     (sound, rw c.in-LoadWrapped.is at c.requires.1)
 
 pub replace-requires : goal.replace-requires
 replace-requires c =
-    let sound : (Sound c.args.registers c.args.keys.now) = sym (sound_keys c.args.registers c.args.keys.now c.args.marks.now) ∙ c.requires.0.sound in
+    let sound : Sound c.args.registers c.args.keys.now = sym (sound_keys c.args.registers c.args.keys.now c.args.marks.now) ∙ c.requires.0.sound in
     (sound, rw c.in-Replace.is at c.requires.1)
 
 pub clear_one-requires : goal.clear_one-requires
 clear_one-requires c =
-    let sound : (Sound c.args.registers c.args.keys.now) = sym (sound_keys c.args.registers c.args.keys.now c.args.marks.now) ∙ c.requires.0.sound in
+    let sound : Sound c.args.registers c.args.keys.now = sym (sound_keys c.args.registers c.args.keys.now c.args.marks.now) ∙ c.requires.0.sound in
     sound
 
 pub clear_all-requires : goal.clear_all-requires
 clear_all-requires c =
-    let sound : (Sound c.args.registers c.args.keys.now) = sym (sound_keys c.args.registers c.args.keys.now c.args.marks.now) ∙ c.requires.0.sound in
+    let sound : Sound c.args.registers c.args.keys.now = sym (sound_keys c.args.registers c.args.keys.now c.args.marks.now) ∙ c.requires.0.sound in
     sound
 
 pub reset-requires : goal.reset-requires
 reset-requires c =
-    let sound : (Sound c.args.registers c.args.keys.now) = sym (sound_keys c.args.registers c.args.keys.now c.args.marks.now) ∙ c.requires.0.sound in
+    let sound : Sound c.args.registers c.args.keys.now = sym (sound_keys c.args.registers c.args.keys.now c.args.marks.now) ∙ c.requires.0.sound in
     sound
 
 pub returns-in-Manage : goal.returns-in-Manage

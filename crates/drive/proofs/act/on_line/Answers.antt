@@ -11,15 +11,15 @@ use Rattle.drive.proofs.act.on_line.Goals as goal
 
 pub act-told-requires : goal.act-told-requires
 act-told-requires c =
-    let room : (5 + uid_most + key_size < length c.read-read.new.frame) = search rules in
-    (c.requires.0, lies c.args.line.now _ c.read-read.result _ (room) c.read-read.ensures.0)
+    let room : 5 + uid_most + key_size < length c.read-read.new.frame = search rules in
+    (c.requires.0, lies c.args.line.now _ c.read-read.result _ room c.read-read.ensures.0)
 
 pub returns : goal.returns
 returns c =
-    let room : (5 + uid_most + key_size < length c.read-read.new.frame) = search rules in
+    let room : 5 + uid_most + key_size < length c.read-read.new.frame = search rules in
     let a = c.args in
     let now : State = state a.registers a.keys.now a.marks.now in (
-      c.act-told.ensures.0 ∙ ap (acted now) (means a.line.now _ c.read-read.result _ (room) c.read-read.ensures.0) ∙ line_acts now a.line.now,
+      c.act-told.ensures.0 ∙ ap (acted now) (means a.line.now _ c.read-read.result _ room c.read-read.ensures.0) ∙ line_acts now a.line.now,
       c.wipe.ensures (c.act-told.ensures.1
           ∙ ap (drop replace_most) (ap (λ (x : ReadFrom). x.frame) c.read-read.ensures.0 ∙ ap (λ z. (read_from a.line.now z).frame) c.requires.1)),
       c.read-read.ensures.1,

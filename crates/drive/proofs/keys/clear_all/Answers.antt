@@ -20,23 +20,24 @@ returns-then-no_namespace c =
 
 pub count-tags-requires : goal.count-tags-requires
 count-tags-requires c =
-    let named : (no_namespace c.args.ns ≡ false) = sym c.no_namespace.ensures ∙ c.if-no_namespace.false in
-    is_namespace_lem _ (named)
+    let named : no_namespace c.args.ns ≡ false = sym c.no_namespace.ensures ∙ c.if-no_namespace.false in
+    is_namespace_lem _ named
 
 pub returns-then-tags-eq0 : goal.returns-then-tags-eq0
 unfolding clear_all
 returns-then-tags-eq0 c =
-    let named : (no_namespace c.args.ns ≡ false) = sym c.no_namespace.ensures ∙ c.if-no_namespace.false in
+    let named : no_namespace c.args.ns ≡ false = sym c.no_namespace.ensures ∙ c.if-no_namespace.false in
     λ marks.
     rw (c.refused-then-tags-eq0.ensures, named, unmanaged_by c.args.registers c.args.ns _ c.count-tags.ensures c.if-tags-eq0.true)
 
 pub returns : goal.returns
 unfolding clear_all empty_slots
 returns c =
-    let named : (no_namespace c.args.ns ≡ false) = sym c.no_namespace.ensures ∙ c.if-no_namespace.false in
-    let held : (managed (view_of (state c.args.registers [] [])) c.args.ns ≡ true) = managed_by c.args.registers c.args.ns _ c.count-tags.ensures c.if-tags-eq0.false in
+    let named : no_namespace c.args.ns ≡ false = sym c.no_namespace.ensures ∙ c.if-no_namespace.false in
+    let held : (managed (view_of (state c.args.registers [] [])) c.args.ns ≡ true) =
+    managed_by c.args.registers c.args.ns _ c.count-tags.ensures c.if-tags-eq0.false in
     λ marks.
     let a = c.args in
     let counted = ap (λ n. cleared_up_to a.ns n a.keys.now) c.count-tags.ensures in
-    let emptied = c.clear_up_to.ensures ∙ counted ∙ sound_clear (state a.registers a.keys.now []) c.requires a.ns (named) in
+    let emptied = c.clear_up_to.ensures ∙ counted ∙ sound_clear (state a.registers a.keys.now []) c.requires a.ns named in
     rw (c.done.ensures, emptied, named, held)

@@ -14,7 +14,7 @@ returns-then-not-clean c =
 pub loop-i-preserved : goal.loop-i-preserved
 loop-i-preserved c =
     let a = c.args in
-    let clean = c.clean.ensures (c.if-not-clean.false) in
+    let clean = c.clean.ensures c.if-not-clean.false in
     (omega arith, omega arith, clean_both a.text.now a.at c.loop-i.i _ c.loop-i.invariant.2 clean)
 
 pub returns : goal.returns

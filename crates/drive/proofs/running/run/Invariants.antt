@@ -8,7 +8,9 @@ use Rattle.drive.proofs.RunningLaws.{Mid}
 use Rattle.drive.proofs.running.run.Given as goal
 
 abbrev pub invariant-loop-at : goal.invariant-loop-at
-invariant-loop-at l = Mid (state l.initial.registers l.initial.keys l.initial.marks) l.text l.initial.out (state l.registers l.keys l.marks) l.at l.lines l.bytes l.out × Ready l.registers l.keys l.marks
+invariant-loop-at l =
+    Mid (state l.initial.registers l.initial.keys l.initial.marks) l.text l.initial.out (state l.registers l.keys l.marks) l.at l.lines l.bytes l.out
+    × Ready l.registers l.keys l.marks
     × (l.frame ≡ zeros (digits_most / 2)) × (l.words ≡ zeros schedule_words)
 
 abbrev pub decreases-loop-at : goal.decreases-loop-at

@@ -24,7 +24,7 @@ returns-then-not-open c =
     let kek = drop slots_size a.keys.now in
     let f = a.f.now in
     let was = unwrap kek (part (5 + a.l) wrapped_size f) in
-    let none = shut was (sym (c.if-not-open.true) ∙ c.open.ensures.0) in (
+    let none = shut was (sym c.if-not-open.true ∙ c.open.ensures.0) in (
       λ marks. rw c.refused.ensures
           (wrapped_shut a.registers a.keys.now marks a.ns a.tag (contents_at wrapped_size 5 a.l f) c.requires.2 none),
       rest_same kek f a.l c.requires.1.0 c.requires.1.1 _ c.open.ensures.1,
@@ -37,7 +37,7 @@ clear-requires c =
     let kek = drop slots_size a.keys.now in
     let f = a.f.now in
     let was = unwrap kek (part (5 + a.l) wrapped_size f) in
-    let some = opens was (sym (c.if-not-open.false) ∙ c.open.ensures.0) in
+    let some = opens was (sym c.if-not-open.false ∙ c.open.ensures.0) in
     let fit = c.requires.1.0 in
     let room = c.requires.1.1 in (
       c.requires.0,
@@ -50,7 +50,7 @@ returns c =
     let kek = drop slots_size a.keys.now in
     let f = a.f.now in
     let was = unwrap kek (part (5 + a.l) wrapped_size f) in
-    let some = opens was (sym (c.if-not-open.false) ∙ c.open.ensures.0) in
+    let some = opens was (sym c.if-not-open.false ∙ c.open.ensures.0) in
     let fit = c.requires.1.0 in
     let room = c.requires.1.1 in (
       λ marks.

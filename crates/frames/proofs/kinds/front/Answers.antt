@@ -21,9 +21,9 @@ slice_bounds-by_kind-end-2 c =
 pub by_kind-requires : goal.by_kind-requires
 by_kind-requires c =
     let first : (byte 0 (take c.args.n c.args.bytes.now) ≡ get_or c.args.bytes.now 0 0) = get_or-take c.args.n c.args.bytes.now 0 0 c.requires.0 in
-    (omega (arith, length-take-le c.args.n c.args.bytes.now c.requires.1), λ k. c.if-bytes-eq13.false (sym (first) ∙ k))
+    (omega (arith, length-take-le c.args.n c.args.bytes.now c.requires.1), λ k. c.if-bytes-eq13.false (sym first ∙ k))
 
 pub returns : goal.returns
 returns c =
     let first : (byte 0 (take c.args.n c.args.bytes.now) ≡ get_or c.args.bytes.now 0 0) = get_or-take c.args.n c.args.bytes.now 0 0 c.requires.0 in
-    others_stay c.args.n c.args.bytes.now c.requires.1 _ (λ k. c.if-bytes-eq13.false (sym (first) ∙ k)) c.by_kind.ensures
+    others_stay c.args.n c.args.bytes.now c.requires.1 _ (λ k. c.if-bytes-eq13.false (sym first ∙ k)) c.by_kind.ensures

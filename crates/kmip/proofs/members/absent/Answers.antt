@@ -21,4 +21,5 @@ pub returns-in-Structure : goal.returns-in-Structure
 returns-in-Structure c =
     λ items r.
     let s = c.args in
-    sym (lacks_structure s.bytes.now c.find-place.result.at s.end s.tag items (c.find-place.ensures.0 items r) _ _ (sym c.find-place.ensures.2 ∙ c.in-Structure.is))
+    sym (lacks_structure s.bytes.now c.find-place.result.at s.end s.tag items (c.find-place.ensures.0 items r) _ _
+    (sym c.find-place.ensures.2 ∙ c.in-Structure.is))

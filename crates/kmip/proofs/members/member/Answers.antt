@@ -12,7 +12,8 @@ pub returns-then-k-kind : goal.returns-then-k-kind
 returns-then-k-kind c =
     let s = c.args in (
       λ items r. sought_other s.bytes.now c.find-place.result.at s.end s.kind (from s.tag items) (c.find-place.ensures.0 items r)
-          c.in-Value.tag c.in-Value.k c.in-Value.length c.in-Value.next (sym c.find-place.ensures.2 ∙ c.in-Value.is) _ c.if-k-kind.true c.no_member-then-k-kind.ensures,
+          c.in-Value.tag c.in-Value.k c.in-Value.length c.in-Value.next (sym c.find-place.ensures.2 ∙ c.in-Value.is) _ c.if-k-kind.true
+          c.no_member-then-k-kind.ensures,
       λ hit. absurd (true≢false (sym hit ∙ c.no_member-then-k-kind.ensures)),
     )
 
@@ -26,7 +27,8 @@ pub returns-then-kind-ne-STRUCTURE : goal.returns-then-kind-ne-STRUCTURE
 returns-then-kind-ne-STRUCTURE c =
     let s = c.args in (
       λ items r. sought_no_structure s.bytes.now c.find-place.result.at s.end s.kind (from s.tag items) (c.find-place.ensures.0 items r)
-          c.in-Structure.tag c.in-Structure.length (sym c.find-place.ensures.2 ∙ c.in-Structure.is) _ c.if-kind-ne-STRUCTURE.true c.no_member-then-kind-ne-STRUCTURE.ensures,
+          c.in-Structure.tag c.in-Structure.length (sym c.find-place.ensures.2 ∙ c.in-Structure.is) _ c.if-kind-ne-STRUCTURE.true
+          c.no_member-then-kind-ne-STRUCTURE.ensures,
       λ hit. absurd (true≢false (sym hit ∙ c.no_member-then-kind-ne-STRUCTURE.ensures)),
     )
 

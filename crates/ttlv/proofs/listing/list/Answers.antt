@@ -17,9 +17,10 @@ loop-levels-preserved-then-at-end c =
 
 pub front_at-found-requires : goal.front_at-found-requires
 front_at-found-requires c =
-    let turn : (let s = c.args in
-    let l = c.loop-levels in
-    Turn s.bytes.now s.places.now l.places l.ends l.levels l.at l.count) = record { good = c.requires; so_far = c.loop-levels.invariant; some_level = c.loop-levels-test.true; some_left = c.if-at-end.false } in
+    let a = c.args in
+    let k = c.loop-levels in
+    let turn : Turn a.bytes.now a.places.now k.places k.ends k.levels k.at k.count =
+    record { good = c.requires; so_far = c.loop-levels.invariant; some_level = c.loop-levels-test.true; some_left = c.if-at-end.false } in
     let t = turn in
     fill_run t.good t.so_far t.some_level
 
@@ -29,119 +30,132 @@ shape_of-places-in-NoItem c =
 
 pub returns-in-NoItem : goal.returns-in-NoItem
 returns-in-NoItem c =
-    let turn : (let s = c.args in
-    let l = c.loop-levels in
-    Turn s.bytes.now s.places.now l.places l.ends l.levels l.at l.count) = record { good = c.requires; so_far = c.loop-levels.invariant; some_level = c.loop-levels-test.true; some_left = c.if-at-end.false } in
+    let a = c.args in
+    let k = c.loop-levels in
+    let turn : Turn a.bytes.now a.places.now k.places k.ends k.levels k.at k.count =
+    record { good = c.requires; so_far = c.loop-levels.invariant; some_level = c.loop-levels-test.true; some_left = c.if-at-end.false } in
     let found = rw c.in-NoItem.is at c.front_at-found.ensures in
-    absurd (turn_broken (turn) found)
+    absurd (turn_broken turn found)
 
 pub slice_bounds-put-count : goal.slice_bounds-put-count
 slice_bounds-put-count c =
-    let turn : (let s = c.args in
-    let l = c.loop-levels in
-    Turn s.bytes.now s.places.now l.places l.ends l.levels l.at l.count) = record { good = c.requires; so_far = c.loop-levels.invariant; some_level = c.loop-levels-test.true; some_left = c.if-at-end.false } in
+    let a = c.args in
+    let k = c.loop-levels in
+    let turn : Turn a.bytes.now a.places.now k.places k.ends k.levels k.at k.count =
+    record { good = c.requires; so_far = c.loop-levels.invariant; some_level = c.loop-levels-test.true; some_left = c.if-at-end.false } in
     let found = rw c.in-Value.is at c.front_at-found.ensures in
-    let i = value_inside (turn) c.in-Value.tag c.in-Value.kind c.in-Value.length c.in-Value.next found in
-    let r = turn_room (turn) (omega arith) in
+    let i = value_inside turn c.in-Value.tag c.in-Value.kind c.in-Value.length c.in-Value.next found in
+    let r = turn_room turn (omega arith) in
     omega arith
 
 pub slice_bounds-put-start : goal.slice_bounds-put-start
 slice_bounds-put-start c =
-    let turn : (let s = c.args in
-    let l = c.loop-levels in
-    Turn s.bytes.now s.places.now l.places l.ends l.levels l.at l.count) = record { good = c.requires; so_far = c.loop-levels.invariant; some_level = c.loop-levels-test.true; some_left = c.if-at-end.false } in
+    let a = c.args in
+    let k = c.loop-levels in
+    let turn : Turn a.bytes.now a.places.now k.places k.ends k.levels k.at k.count =
+    record { good = c.requires; so_far = c.loop-levels.invariant; some_level = c.loop-levels-test.true; some_left = c.if-at-end.false } in
     let found = rw c.in-Value.is at c.front_at-found.ensures in
-    let i = value_inside (turn) c.in-Value.tag c.in-Value.kind c.in-Value.length c.in-Value.next found in
-    let r = turn_room (turn) (omega arith) in
+    let i = value_inside turn c.in-Value.tag c.in-Value.kind c.in-Value.length c.in-Value.next found in
+    let r = turn_room turn (omega arith) in
     omega arith
 
 pub put-requires : goal.put-requires
 put-requires c =
-    let turn : (let s = c.args in
-    let l = c.loop-levels in
-    Turn s.bytes.now s.places.now l.places l.ends l.levels l.at l.count) = record { good = c.requires; so_far = c.loop-levels.invariant; some_level = c.loop-levels-test.true; some_left = c.if-at-end.false } in
+    let a = c.args in
+    let k = c.loop-levels in
+    let turn : Turn a.bytes.now a.places.now k.places k.ends k.levels k.at k.count =
+    record { good = c.requires; so_far = c.loop-levels.invariant; some_level = c.loop-levels-test.true; some_left = c.if-at-end.false } in
     let found = rw c.in-Value.is at c.front_at-found.ensures in
-    value_places (turn) c.in-Value.tag c.in-Value.kind c.in-Value.length c.in-Value.next found
+    value_places turn c.in-Value.tag c.in-Value.kind c.in-Value.length c.in-Value.next found
 
 pub loop-levels-smaller-in-Value : goal.loop-levels-smaller-in-Value
 loop-levels-smaller-in-Value c =
-    let turn : (let s = c.args in
-    let l = c.loop-levels in
-    Turn s.bytes.now s.places.now l.places l.ends l.levels l.at l.count) = record { good = c.requires; so_far = c.loop-levels.invariant; some_level = c.loop-levels-test.true; some_left = c.if-at-end.false } in
+    let a = c.args in
+    let k = c.loop-levels in
+    let turn : Turn a.bytes.now a.places.now k.places k.ends k.levels k.at k.count =
+    record { good = c.requires; so_far = c.loop-levels.invariant; some_level = c.loop-levels-test.true; some_left = c.if-at-end.false } in
     let found = rw c.in-Value.is at c.front_at-found.ensures in
-    let i = value_inside (turn) c.in-Value.tag c.in-Value.kind c.in-Value.length c.in-Value.next found in
+    let i = value_inside turn c.in-Value.tag c.in-Value.kind c.in-Value.length c.in-Value.next found in
     let n = found.inside in
     omega arith
 
 pub loop-levels-preserved-in-Value : goal.loop-levels-preserved-in-Value
 loop-levels-preserved-in-Value c =
-    let turn : (let s = c.args in
-    let l = c.loop-levels in
-    Turn s.bytes.now s.places.now l.places l.ends l.levels l.at l.count) = record { good = c.requires; so_far = c.loop-levels.invariant; some_level = c.loop-levels-test.true; some_left = c.if-at-end.false } in
+    let a = c.args in
+    let k = c.loop-levels in
+    let turn : Turn a.bytes.now a.places.now k.places k.ends k.levels k.at k.count =
+    record { good = c.requires; so_far = c.loop-levels.invariant; some_level = c.loop-levels-test.true; some_left = c.if-at-end.false } in
     let found = rw c.in-Value.is at c.front_at-found.ensures in
-    value_more (turn) c.in-Value.tag c.in-Value.kind c.in-Value.length c.in-Value.next found c.put.new.places c.put.ensures
+    value_more turn c.in-Value.tag c.in-Value.kind c.in-Value.length c.in-Value.next found c.put.new.places c.put.ensures
 
 pub slice_bounds-put-count-in-Structure : goal.slice_bounds-put-count-in-Structure
 slice_bounds-put-count-in-Structure c =
-    let turn : (let s = c.args in
-    let l = c.loop-levels in
-    Turn s.bytes.now s.places.now l.places l.ends l.levels l.at l.count) = record { good = c.requires; so_far = c.loop-levels.invariant; some_level = c.loop-levels-test.true; some_left = c.if-at-end.false } in
+    let a = c.args in
+    let k = c.loop-levels in
+    let turn : Turn a.bytes.now a.places.now k.places k.ends k.levels k.at k.count =
+    record { good = c.requires; so_far = c.loop-levels.invariant; some_level = c.loop-levels-test.true; some_left = c.if-at-end.false } in
     let found = rw c.in-Structure.is at c.front_at-found.ensures in
-    let i = structure_inside (turn) c.in-Structure.tag c.in-Structure.length found in
-    let r = turn_room (turn) (omega arith) in
+    let i = structure_inside turn c.in-Structure.tag c.in-Structure.length found in
+    let r = turn_room turn (omega arith) in
     omega arith
 
 pub slice_bounds-put-start-in-Structure : goal.slice_bounds-put-start-in-Structure
 slice_bounds-put-start-in-Structure c =
-    let turn : (let s = c.args in
-    let l = c.loop-levels in
-    Turn s.bytes.now s.places.now l.places l.ends l.levels l.at l.count) = record { good = c.requires; so_far = c.loop-levels.invariant; some_level = c.loop-levels-test.true; some_left = c.if-at-end.false } in
+    let a = c.args in
+    let k = c.loop-levels in
+    let turn : Turn a.bytes.now a.places.now k.places k.ends k.levels k.at k.count =
+    record { good = c.requires; so_far = c.loop-levels.invariant; some_level = c.loop-levels-test.true; some_left = c.if-at-end.false } in
     let found = rw c.in-Structure.is at c.front_at-found.ensures in
-    let i = structure_inside (turn) c.in-Structure.tag c.in-Structure.length found in
-    let r = turn_room (turn) (omega arith) in
+    let i = structure_inside turn c.in-Structure.tag c.in-Structure.length found in
+    let r = turn_room turn (omega arith) in
     omega arith
 
 pub put-requires-in-Structure : goal.put-requires-in-Structure
 put-requires-in-Structure c =
-    let turn : (let s = c.args in
-    let l = c.loop-levels in
-    Turn s.bytes.now s.places.now l.places l.ends l.levels l.at l.count) = record { good = c.requires; so_far = c.loop-levels.invariant; some_level = c.loop-levels-test.true; some_left = c.if-at-end.false } in
+    let a = c.args in
+    let k = c.loop-levels in
+    let turn : Turn a.bytes.now a.places.now k.places k.ends k.levels k.at k.count =
+    record { good = c.requires; so_far = c.loop-levels.invariant; some_level = c.loop-levels-test.true; some_left = c.if-at-end.false } in
     let found = rw c.in-Structure.is at c.front_at-found.ensures in
-    structure_places (turn) c.in-Structure.tag c.in-Structure.length found
+    structure_places turn c.in-Structure.tag c.in-Structure.length found
 
 pub overflow_add-ends : goal.overflow_add-ends
 overflow_add-ends c =
-    let turn : (let s = c.args in
-    let l = c.loop-levels in
-    Turn s.bytes.now s.places.now l.places l.ends l.levels l.at l.count) = record { good = c.requires; so_far = c.loop-levels.invariant; some_level = c.loop-levels-test.true; some_left = c.if-at-end.false } in
+    let a = c.args in
+    let k = c.loop-levels in
+    let turn : Turn a.bytes.now a.places.now k.places k.ends k.levels k.at k.count =
+    record { good = c.requires; so_far = c.loop-levels.invariant; some_level = c.loop-levels-test.true; some_left = c.if-at-end.false } in
     let found = rw c.in-Structure.is at c.front_at-found.ensures in
-    let i = structure_inside (turn) c.in-Structure.tag c.in-Structure.length found in
+    let i = structure_inside turn c.in-Structure.tag c.in-Structure.length found in
     omega arith
 
 pub bounds-ends-levels-in-Structure : goal.bounds-ends-levels-in-Structure
 bounds-ends-levels-in-Structure c =
-    let turn : (let s = c.args in
-    let l = c.loop-levels in
-    Turn s.bytes.now s.places.now l.places l.ends l.levels l.at l.count) = record { good = c.requires; so_far = c.loop-levels.invariant; some_level = c.loop-levels-test.true; some_left = c.if-at-end.false } in
-    let w = turn_within (turn) in
+    let a = c.args in
+    let k = c.loop-levels in
+    let turn : Turn a.bytes.now a.places.now k.places k.ends k.levels k.at k.count =
+    record { good = c.requires; so_far = c.loop-levels.invariant; some_level = c.loop-levels-test.true; some_left = c.if-at-end.false } in
+    let w = turn_within turn in
     omega arith
 
 pub loop-levels-smaller : goal.loop-levels-smaller
 loop-levels-smaller c =
-    let turn : (let s = c.args in
-    let l = c.loop-levels in
-    Turn s.bytes.now s.places.now l.places l.ends l.levels l.at l.count) = record { good = c.requires; so_far = c.loop-levels.invariant; some_level = c.loop-levels-test.true; some_left = c.if-at-end.false } in
+    let a = c.args in
+    let k = c.loop-levels in
+    let turn : Turn a.bytes.now a.places.now k.places k.ends k.levels k.at k.count =
+    record { good = c.requires; so_far = c.loop-levels.invariant; some_level = c.loop-levels-test.true; some_left = c.if-at-end.false } in
     let found = rw c.in-Structure.is at c.front_at-found.ensures in
-    let i = structure_inside (turn) c.in-Structure.tag c.in-Structure.length found in
+    let i = structure_inside turn c.in-Structure.tag c.in-Structure.length found in
     omega arith
 
 pub loop-levels-preserved : goal.loop-levels-preserved
 loop-levels-preserved c =
-    let turn : (let s = c.args in
-    let l = c.loop-levels in
-    Turn s.bytes.now s.places.now l.places l.ends l.levels l.at l.count) = record { good = c.requires; so_far = c.loop-levels.invariant; some_level = c.loop-levels-test.true; some_left = c.if-at-end.false } in
+    let a = c.args in
+    let k = c.loop-levels in
+    let turn : Turn a.bytes.now a.places.now k.places k.ends k.levels k.at k.count =
+    record { good = c.requires; so_far = c.loop-levels.invariant; some_level = c.loop-levels-test.true; some_left = c.if-at-end.false } in
     let found = rw c.in-Structure.is at c.front_at-found.ensures in
-    structure_more (turn) c.in-Structure.tag c.in-Structure.length found c.put-in-Structure.new.places c.put-in-Structure.ensures
+    structure_more turn c.in-Structure.tag c.in-Structure.length found c.put-in-Structure.new.places c.put-in-Structure.ensures
 
 pub shape_of-places : goal.shape_of-places
 shape_of-places c =

@@ -77,7 +77,7 @@ returns-then-whole-room c =
     ≡ front_of h.tag h.kind h.length (part (s.at + item_head) (s.end - (s.at + item_head)) s.bytes.now)) = let s = c.args in
     let p = c.requires in
     front_run s.bytes.now s.at s.end p.0 p.1 (omega arith) c.head_at-head.result c.head_at-head.ensures in
-    let valued : (is_value c.head_at-head.result.kind c.head_at-head.result.length ≡ true) = sym c.is_value.ensures ∙ c.if-not-is_value.false in
+    let valued : is_value c.head_at-head.result.kind c.head_at-head.result.length ≡ true = sym c.is_value.ensures ∙ c.if-not-is_value.false in
     let s = c.args in
     let p = c.requires in
     let h = c.head_at-head.result in
@@ -85,7 +85,7 @@ returns-then-whole-room c =
     record {
       is =
           at_head
-          ∙ front_wide s.bytes.now (s.at + item_head) s.end l p.1 h.tag h.kind h.length c.if-kind-eq-STRUCTURE.false (valued) c.if-whole-room.true;
+          ∙ front_wide s.bytes.now (s.at + item_head) s.end l p.1 h.tag h.kind h.length c.if-kind-eq-STRUCTURE.false valued c.if-whole-room.true;
       inside = tt;
     }
 
@@ -97,7 +97,7 @@ returns-then-not-all_zero c =
     ≡ front_of h.tag h.kind h.length (part (s.at + item_head) (s.end - (s.at + item_head)) s.bytes.now)) = let s = c.args in
     let p = c.requires in
     front_run s.bytes.now s.at s.end p.0 p.1 (omega arith) c.head_at-head.result c.head_at-head.ensures in
-    let valued : (is_value c.head_at-head.result.kind c.head_at-head.result.length ≡ true) = sym c.is_value.ensures ∙ c.if-not-is_value.false in
+    let valued : is_value c.head_at-head.result.kind c.head_at-head.result.length ≡ true = sym c.is_value.ensures ∙ c.if-not-is_value.false in
     let padding : (let s = c.args in
     let h = c.head_at-head.result in
     c.all_zero.result ≡ all_zero (part (s.at + item_head + h.length) (to_eight h.length - h.length) s.bytes.now)) = let s = c.args in
@@ -106,11 +106,11 @@ returns-then-not-all_zero c =
     let p = c.requires in
     let h = c.head_at-head.result in
     let l : s.at + item_head ≤ s.end = omega arith in
-    let no = sym (padding) ∙ c.if-not-all_zero.true in
+    let no = sym padding ∙ c.if-not-all_zero.true in
     record {
       is =
           at_head
-          ∙ front_unclean s.bytes.now (s.at + item_head) s.end l p.1 h.tag h.kind h.length c.if-kind-eq-STRUCTURE.false (valued) c.if-whole-room.false no;
+          ∙ front_unclean s.bytes.now (s.at + item_head) s.end l p.1 h.tag h.kind h.length c.if-kind-eq-STRUCTURE.false valued c.if-whole-room.false no;
       inside = tt;
     }
 
@@ -122,7 +122,7 @@ returns c =
     ≡ front_of h.tag h.kind h.length (part (s.at + item_head) (s.end - (s.at + item_head)) s.bytes.now)) = let s = c.args in
     let p = c.requires in
     front_run s.bytes.now s.at s.end p.0 p.1 (omega arith) c.head_at-head.result c.head_at-head.ensures in
-    let valued : (is_value c.head_at-head.result.kind c.head_at-head.result.length ≡ true) = sym c.is_value.ensures ∙ c.if-not-is_value.false in
+    let valued : is_value c.head_at-head.result.kind c.head_at-head.result.length ≡ true = sym c.is_value.ensures ∙ c.if-not-is_value.false in
     let padding : (let s = c.args in
     let h = c.head_at-head.result in
     c.all_zero.result ≡ all_zero (part (s.at + item_head + h.length) (to_eight h.length - h.length) s.bytes.now)) = let s = c.args in
@@ -131,10 +131,10 @@ returns c =
     let p = c.requires in
     let h = c.head_at-head.result in
     let l : s.at + item_head ≤ s.end = omega arith in
-    let yes = sym (padding) ∙ c.if-not-all_zero.false in
+    let yes = sym padding ∙ c.if-not-all_zero.false in
     record {
       is =
           at_head
-          ∙ front_closed s.bytes.now (s.at + item_head) s.end l p.1 h.tag h.kind h.length c.if-kind-eq-STRUCTURE.false (valued) c.if-whole-room.false yes;
+          ∙ front_closed s.bytes.now (s.at + item_head) s.end l p.1 h.tag h.kind h.length c.if-kind-eq-STRUCTURE.false valued c.if-whole-room.false yes;
       inside = (refl, omega arith);
     }

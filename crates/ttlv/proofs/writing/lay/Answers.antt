@@ -32,7 +32,7 @@ slice_bounds-put_item-count c =
       fits = p.room;
       is_piece = c.as_written-item.ensures;
     } in
-    let r = piece_room (piece) in
+    let r = piece_room piece in
     omega arith
 
 pub slice_bounds-put_item-start : goal.slice_bounds-put_item-start
@@ -48,7 +48,7 @@ slice_bounds-put_item-start c =
       fits = p.room;
       is_piece = c.as_written-item.ensures;
     } in
-    let r = piece_room (piece) in
+    let r = piece_room piece in
     omega arith
 
 pub put_item-requires : goal.put_item-requires
@@ -64,7 +64,7 @@ put_item-requires c =
       fits = p.room;
       is_piece = c.as_written-item.ensures;
     } in
-    (piece_lent (piece), piece_inside (piece))
+    (piece_lent piece, piece_inside piece)
 
 pub overflow_add-at : goal.overflow_add-at
 overflow_add-at c =
@@ -79,7 +79,7 @@ overflow_add-at c =
       fits = p.room;
       is_piece = c.as_written-item.ensures;
     } in
-    let r = piece_room (piece) in
+    let r = piece_room piece in
     let m = c.room-at.ensures.is in
     omega arith
 
@@ -96,7 +96,7 @@ loop-i-preserved c =
       fits = p.room;
       is_piece = c.as_written-item.ensures;
     } in
-    lay_more (piece) c.put_item.new.out c.room-at.result c.put_item.ensures c.room-at.ensures.is
+    lay_more piece c.put_item.new.out c.room-at.result c.put_item.ensures c.room-at.ensures.is
 
 pub shape_of-out : goal.shape_of-out
 shape_of-out c =

@@ -9,5 +9,5 @@ use Rattle.tuffaleen_c.proofs.host.header_numbers.Goals as goal
 
 pub returns : goal.returns
 returns c =
-    let vendor : (length c.args.h.vendor_specific ≡ vendor_specific_size) = search rules in
+    let vendor : length c.args.h.vendor_specific ≡ vendor_specific_size = search rules in
     rw (c.widen.ensures, vendor, append-nil c.args.h.vendor_specific)

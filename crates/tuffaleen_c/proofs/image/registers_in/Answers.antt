@@ -19,23 +19,23 @@ returns-then-none c = rw (c.if-none.true, c.both_locked-locks.ensures)
 
 pub slice_bounds-copy-end-2 : goal.slice_bounds-copy-end-2
 slice_bounds-copy-end-2 c =
-    let size : (c.args.none ≡ false → length c.args.image.now ≡ image_size) = λ e. (is_image c.args.image.now (sym c.requires ∙ e)).size in
+    let size : c.args.none ≡ false → length c.args.image.now ≡ image_size = λ e. (is_image c.args.image.now (sym c.requires ∙ e)).size in
     sym (length_front c.args.image.now (size c.if-none.false))
 
 pub bounds-image-4 : goal.bounds-image-4
 bounds-image-4 c =
-    let size : (c.args.none ≡ false → length c.args.image.now ≡ image_size) = λ e. (is_image c.args.image.now (sym c.requires ∙ e)).size in
+    let size : c.args.none ≡ false → length c.args.image.now ≡ image_size = λ e. (is_image c.args.image.now (sym c.requires ∙ e)).size in
     omega (arith, size c.if-none.false)
 
 pub bounds-image : goal.bounds-image
 bounds-image c =
-    let size : (c.args.none ≡ false → length c.args.image.now ≡ image_size) = λ e. (is_image c.args.image.now (sym c.requires ∙ e)).size in
+    let size : c.args.none ≡ false → length c.args.image.now ≡ image_size = λ e. (is_image c.args.image.now (sym c.requires ∙ e)).size in
     omega (arith, size c.if-none.false)
 
 pub returns : goal.returns
 unfolding registers_in
 returns c =
-    let size : (c.args.none ≡ false → length c.args.image.now ≡ image_size) = λ e. (is_image c.args.image.now (sym c.requires ∙ e)).size in
+    let size : c.args.none ≡ false → length c.args.image.now ≡ image_size = λ e. (is_image c.args.image.now (sym c.requires ∙ e)).size in
     let image = c.args.image.now in
     let front = sym (length_front image (size c.if-none.false)) in
     let counts = c.copy.ensures ∙ copied_over (replicate namespaces 0) (take namespaces image) front in

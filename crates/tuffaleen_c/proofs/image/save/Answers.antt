@@ -18,21 +18,21 @@ slice_bounds-copy-end-2 c =
 
 pub bounds-image-4 : goal.bounds-image-4
 bounds-image-4 c =
-    let four : (length c.args.registers.counts ≡ namespaces) = search rules in
+    let four : length c.args.registers.counts ≡ namespaces = search rules in
     let a = c.args in
-    omega (arith, length_counted a.image.now a.registers (c.requires c.if-none.false) (four) c.copy.ensures)
+    omega (arith, length_counted a.image.now a.registers (c.requires c.if-none.false) four c.copy.ensures)
 
 pub bounds-image : goal.bounds-image
 bounds-image c =
-    let four : (length c.args.registers.counts ≡ namespaces) = search rules in
+    let four : length c.args.registers.counts ≡ namespaces = search rules in
     let a = c.args in
     let size = c.requires c.if-none.false in
-    omega (arith, length_headed a.image.now a.registers size (four) c.copy.ensures c.lock_value.result)
+    omega (arith, length_headed a.image.now a.registers size four c.copy.ensures c.lock_value.result)
 
 pub returns : goal.returns
 returns c =
-    let four : (length c.args.registers.counts ≡ namespaces) = search rules in
+    let four : length c.args.registers.counts ≡ namespaces = search rules in
     let a = c.args in
     let size = c.requires c.if-none.false in
     rw c.if-none.false
-    (registers_front a.image.now a.registers size (four) c.copy.ensures c.lock_value.ensures c.lock_value-2.ensures)
+    (registers_front a.image.now a.registers size four c.copy.ensures c.lock_value.ensures c.lock_value-2.ensures)
