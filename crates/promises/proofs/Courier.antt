@@ -1,17 +1,11 @@
 -- The courier's promises hold: RFC 3394's, of what the two calls leave.
 -- Assumes nothing.
-use mathlib.Core.Path.{◌≡◌, refl, ap, ◌∙◌}
-use mathlib.Core.List.{List, ◌++◌}
-use mathlib.Core.Option.{none, some}
-use Prim.Native.Nat.{ℕ}
-use lib.ListN.{length, drop}
+use mathlib.Core.Path.{ap, ◌∙◌}
+use mathlib.Core.List.{◌++◌}
 use lib.Seq.{drop_at}
-use Rattle.rules.specs.Numbers.{key_size, kek_size}
-use Rattle.rules.specs.AesPromises.{Bytes}
 use Rattle.rules.specs.KeyWrap.{initial_value, wrap, unwrap}
 use Rattle.wrap.proofs.WrappingLaws.{unwraps_back}
 use Rattle.tuffaleen_c.specs.Courier.{unwrapped, c_unwrap}
-use Rattle.promises.specs.Leaves.{WrapLeaves}
 use Rattle.promises.specs.Courier.{OpensWhatWasShut, DriveOpensWhatWasShut, NothingOfWhatStaysShut, CourierDemands}
 use Rattle.promises.proofs.LeavesLaws.{wrapped_is, unwrapped_is}
 

@@ -2,8 +2,8 @@
 -- is read as that load, and a load that passes puts its key there.
 -- Assumes nothing.
 use mathlib.Core.Path.{◌≡◌, refl, sym, ap, ◌∙◌}
-use mathlib.Core.Bool.{true, false, ◌&&◌, cond}
-use mathlib.Core.List.{List, ◌∷◌, ◌++◌}
+use mathlib.Core.Bool.{false, ◌&&◌, cond}
+use mathlib.Core.List.{List, ◌++◌}
 use Prim.Native.Nat.{ℕ, ◌^◌, ◌≤◌, ◌<◌}
 use native.Mathlib.Omega.{arith}
 use lib.ListN.{length, take, drop}
@@ -31,7 +31,7 @@ use Rattle.rules.proofs.StateLaws.{is_namespace_lem}
 use Rattle.rules.proofs.EffectsLaws.{named_slot}
 use Rattle.rules.proofs.MessageLineLaws.{message_line_loads}
 use Rattle.kmip.specs.declared.MessageWritten.TheVariants.{Bytes}
-use Rattle.kmip.specs.Writing.{Wrote, message_room, message_bytes, write_message}
+use Rattle.kmip.specs.Writing.{Wrote, message_room, message_bytes}
 use Rattle.kmip.proofs.LayingLaws.{written}
 use Rattle.tuffaleen_c.specs.Office.{message_answer, message_length, CMessage, c_message}
 use Rattle.promises.specs.Leaves.{CallLeaves, MessageLeaves}
