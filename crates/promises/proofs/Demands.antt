@@ -23,11 +23,12 @@ use Rattle.rules.proofs.AnswersLaws.{lines_then, split_answers}
 use Rattle.rules.proofs.SayableLaws.{sayable_answers}
 use Rattle.rules.proofs.CallLaws.{call_unread, call_read, session_ran}
 use Rattle.rules.proofs.Promised as rules
+use Rattle.rules.proofs.KekLaws as kek-laws
 use Rattle.rules.proofs.ToldLaws.{view_as_told, answer_as_told}
 use Rattle.promises.specs.Leaves.{StartLeaves, SessionLeaves}
 use Rattle.promises.specs.Demands.{Shows, SinceStart, started, unread, no_session, Answers, by_call, in_session, Demands}
 use Rattle.promises.specs.Demands as since
-use Rattle.promises.specs.Shown.{SessionsShow}
+use Rattle.promises.specs.SessionDemands.{SessionShows, SessionDemands}
 use Rattle.promises.proofs.LeavesLaws.{start_is, call_is, session_is}
 
 -- ------------------------------------------------------------------------
@@ -78,8 +79,8 @@ unfolding answers_to
 length_answers s [] = refl
 length_answers s (line ∷ lines) = ap suc (length_answers (step s line).state lines)
 
-pub sessions_show : SessionsShow
-sessions_show s text out o l ran = (
+session_shows : SessionShows SessionLeaves
+session_shows s text out o l ran = (
   answers_to s (lines_of text),
   (
     record { ran = ran; sayable = sayable_answers s (lines_of text); shown = shown_is s text out o l ran },
@@ -136,4 +137,10 @@ demands = record {
   never_unsound = λ h s led. rules.never_unsound h s (from_fresh h s led);
   view_as_told = λ h s led. view_as_told h s (from_fresh h s led);
   answer_as_told = λ h s line answer a. answer_as_told h s line answer (steps h s line answer a);
+}
+
+pub session_demands : SessionDemands
+session_demands = record {
+  session_shows = session_shows;
+  session_keeps_kek = λ s text out o l. kek-laws.session_keeps_kek s text out o (session_is s text out o l);
 }

@@ -1,7 +1,7 @@
 pub mod Tight
 pub mod Leaves
 pub mod Demands
-pub mod Shown
+pub mod SessionDemands
 pub mod Discovery
 pub mod Defined
 pub mod Courier

@@ -1,12 +1,13 @@
--- What a session that was not refused shows: an answer for each line of its text.
--- proofs/Demands.antt has a proof.
+-- Of sessions, beside Demands.antt: one that was not refused shows an answer for each
+-- line of its text, and any keeps the key-encryption key. proofs/Demands.antt has a
+-- proof of each.
 -- Assumes nothing.
 use Rattle.std.specs.Prelude.{◌≡◌, List, ℕ, length}
 use Rattle.rules.specs.declared.Answer.{Answer}
 use Rattle.rules.specs.declared.Answer.TheVariants.{Done}
 use Rattle.rules.specs.State.{State}
 use Rattle.rules.specs.Sessions.{Session, lines_of}
-use Rattle.rules.specs.Promises.{OfSessions}
+use Rattle.rules.specs.Promises.{OfSessions, SessionKeepsKek}
 use Rattle.promises.specs.Leaves.{SessionLeaves}
 use Rattle.promises.specs.Demands.{Shows}
 
@@ -15,5 +16,6 @@ SessionShows Leaves =
     (s : State) (text out : List ℕ) (o : Session) → Leaves s text out o → o.result ≡ Done
     → (answers : List Answer) × (Shows o answers × (length answers ≡ length (lines_of text)))
 
-abbrev pub SessionsShow : Type 0
-SessionsShow = SessionShows SessionLeaves
+pub record SessionDemands : Type 0 where
+  pub session_shows : SessionShows SessionLeaves
+  pub session_keeps_kek : SessionKeepsKek SessionLeaves
