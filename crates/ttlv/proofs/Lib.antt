@@ -10,3 +10,4 @@ pub mod ItemLoopLaws
 pub mod LayLaws
 pub mod WroteLaws
 pub mod WrittenLaws
+pub mod ListedLaws

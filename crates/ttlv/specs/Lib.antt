@@ -5,3 +5,4 @@ pub mod Places
 pub mod Writing
 pub mod Pieces
 pub mod ListPromises
+pub mod ListTrees
