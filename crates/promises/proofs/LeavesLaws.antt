@@ -1,6 +1,6 @@
--- What start, the call, the session, discovery's writer and reader, and the three
--- calls from C for an office and a courier leave is what the definitions say: their
--- contracts, at the values that went in.
+-- What start, the call, the session, discovery's writer and reader, those of item
+-- lists, and the three calls from C for an office and a courier leave is what the
+-- definitions say: their contracts, at the values that went in.
 -- Assumes nothing.
 use mathlib.Core.Path.{◌≡◌, ap, ◌∙◌}
 use mathlib.Core.List.{List}
@@ -16,7 +16,9 @@ use lib.ListN.{drop}
 use Rattle.rules.specs.KeyWrap.{wrap}
 use Rattle.tuffaleen_c.specs.Office.{CMessage, c_message}
 use Rattle.tuffaleen_c.specs.Courier.{CUnwrapped, c_unwrap}
-use Rattle.promises.specs.Leaves.{MessageLeaves, WrapLeaves, UnwrapLeaves}
+use Rattle.ttlv.specs.Listing.{Reading, read_list}
+use Rattle.ttlv.specs.Writing.{Wrote, write_list}
+use Rattle.promises.specs.Leaves.{MessageLeaves, WrapLeaves, UnwrapLeaves, ListReadLeaves, ListWriteLeaves}
 use Rattle.promises.specs.Leaves.{StartLeaves, CallLeaves, SessionLeaves, ResponseLeaves, ReadFinds}
 
 all_same : {A B C D : Type 0} (f : A → B → C → D) {a a' : A} {b b' : B} {c c' : C} → a ≡ a' → b ≡ b' → c ≡ c'
@@ -44,6 +46,17 @@ response_is f out o l = l.leaves ∙ l.run.meets ∙ both_same respond l.on_fiel
 
 pub finding_is : (d : List ℕ) (o : Discovered) → ReadFinds d o → o ≡ discovered d
 finding_is d o l = l.leaves ∙ l.run.meets ∙ ap discovered l.on_bytes
+
+pub reading_is : (xs places : List ℕ) (o : Reading) → ListReadLeaves xs places o → o ≡ read_list xs places
+reading_is xs places o l = l.leaves ∙ l.run.meets ∙ both_same read_list l.on_bytes l.on_places
+
+four_same : {A B C D E : Type 0} (f : A → B → C → D → E) {a a' : A} {b b' : B} {c c' : C} {d d' : D}
+    → a ≡ a' → b ≡ b' → c ≡ c' → d ≡ d' → f a b c d ≡ f a' b' c' d'
+four_same f p q r s = cc
+
+pub writing_is : (items : List ℕ) (count : ℕ) (values out : List ℕ) (o : Wrote) → ListWriteLeaves items count values out o
+    → o ≡ write_list items count values out
+writing_is items count values out o l = l.leaves ∙ l.run.meets ∙ four_same write_list l.on_items l.on_count l.on_values l.on_out
 
 pub wrapped_is : (kek bytes left : List ℕ) → WrapLeaves kek bytes left → left ≡ wrap kek (drop 8 bytes)
 wrapped_is kek bytes left l = l.leaves ∙ l.run.meets.0 ∙ both_same (λ k b. wrap k (drop 8 b)) l.on_kek l.on_bytes

@@ -5,3 +5,4 @@ pub mod Discovery
 pub mod Defined
 pub mod Courier
 pub mod Office
+pub mod Lists

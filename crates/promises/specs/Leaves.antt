@@ -1,6 +1,6 @@
 -- What a run of `drive::start`, of `drive::answer_line` (a call for one line), of
--- `drive::answer_session`, of `discovery::write` and `discovery::read`, and of
--- `tuffaleen_wrap`, `tuffaleen_unwrap` and `tuffaleen_message` leaves: values that
+-- `drive::answer_session`, of `discovery::write` and `discovery::read`, of
+-- `ttlv::read` and `ttlv::write`, and of `tuffaleen_wrap`, `tuffaleen_unwrap` and `tuffaleen_message` leaves: values that
 -- meet the function's contract.
 -- In `args` and `exit`, .0 is the first parameter, .1 .0 the second, and so on.
 -- Assumes nothing.
@@ -13,6 +13,10 @@ use Rattle.rules.specs.declared.Discovered.{Discovered}
 use Rattle.rules.specs.Discovering.{Responded}
 use Rattle.discovery.proofs.write.Reads as discovery-write
 use Rattle.discovery.proofs.read.Reads as discovery-read
+use Rattle.ttlv.specs.Listing.{Reading}
+use Rattle.ttlv.specs.Writing.{Wrote}
+use Rattle.ttlv.proofs.read.Reads as ttlv-read
+use Rattle.ttlv.proofs.write.Reads as ttlv-write
 use Rattle.drive.specs.Acting.{state, outcome}
 use Rattle.tuffaleen_c.specs.Courier.{CUnwrapped}
 use Rattle.tuffaleen_c.specs.Office.{CMessage}
@@ -79,6 +83,22 @@ pub record ReadFinds (d : List ℕ) (o : Discovered) : Type 0 where
   pub run : Run discovery-read.Learnt
   pub on_bytes : run.args.0.now ≡ d
   pub leaves : o ≡ run.result
+
+-- ttlv's read(bytes, places)
+pub record ListReadLeaves (xs places : List ℕ) (o : Reading) : Type 0 where
+  pub run : Run ttlv-read.Learnt
+  pub on_bytes : run.args.0.now ≡ xs
+  pub on_places : run.args.1.0.now ≡ places
+  pub leaves : o ≡ record { result = run.result; places = run.exit.1.0.now }
+
+-- ttlv's write(items, count, values, out)
+pub record ListWriteLeaves (items : List ℕ) (count : ℕ) (values out : List ℕ) (o : Wrote) : Type 0 where
+  pub run : Run ttlv-write.Learnt
+  pub on_items : run.args.0.now ≡ items
+  pub on_count : run.args.1.0 ≡ count
+  pub on_values : run.args.1.1.0.now ≡ values
+  pub on_out : run.args.1.1.1.0.now ≡ out
+  pub leaves : o ≡ record { result = run.result; out = run.exit.1.1.1.0.now }
 
 -- tuffaleen_wrap(kek, bytes, words), on bytes that end with the key
 pub record WrapLeaves (kek bytes left : List ℕ) : Type 0 where

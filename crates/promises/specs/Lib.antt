@@ -6,3 +6,4 @@ pub mod Discovery
 pub mod Defined
 pub mod Courier
 pub mod Office
+pub mod Lists
