@@ -1,7 +1,7 @@
 -- A cell that holds a value of any type is lent as `&κ mut`, and comes back:
 -- `denote.Lend`'s `lends_ref` and `ref_back`, with what lies in memory taken apart.
---     lends-cell   (b, o) ↦ vs ∗ own h vs  ⊢ ⇛ ∃ γ. own (the `&κ mut T` ((b, o), γ, h)) ∗ the lender's part
---     cell-back    [†κ] ∗ the lender's part ∗ res γ h  ⊢ ⇛ ((b, o) ↦ vals h ∗ own h (vals h))
+--     lends_cell   (b, o) ↦ vs ∗ own h vs  ⊢ ⇛ ∃ γ. own (the `&κ mut T` ((b, o), γ, h)) ∗ the lender's part
+--     cell_back    [†κ] ∗ the lender's part ∗ res γ h  ⊢ ⇛ ((b, o) ↦ vals h ∗ own h (vals h))
 -- The cell is raw: `at_raw` makes one of a local's cell, and `raw_at` a local's cell of it again.
 -- Assumes nothing.
 use Prim.Native.Nat.{ℕ}
