@@ -92,7 +92,8 @@ module _ (tags : ℕ) (tag : Tag) (c : List ℕ) where
         (or_right (loaded c && above || loaded c && ltb uid_most (uid_length c)) _ parts.0) (is_loaded h) in
         let k : ℕ = i - uid_length c in
         let at : 1 + uid_length c + k ≡ 1 + i = omega arith in
-        n (ap (λ j. get_or c j 0) (sym at) ∙ sym (get_d_part (1 + uid_length c) (uid_most - uid_length c) k c (omega arith)) ∙ zero_at (after_uid c) zero_after k)
+        n (ap (λ j. get_or c j 0) (sym at) ∙ sym (get_d_part (1 + uid_length c) (uid_most - uid_length c) k c (omega arith))
+        ∙ zero_at (after_uid c) zero_after k)
     no_cause (in_empty z i n) =
         n (zero_at c (neither_not (empty c) (all_zero c) parts.1 (eq-eqb (uid_length c) 0 z)) i)
 

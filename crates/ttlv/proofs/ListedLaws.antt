@@ -10,7 +10,8 @@ use lib.ListN.{length, take, drop, length-append, length-drop}
 use lib.Seq.{take_at, drop_at, drop-drop}
 use Rattle.cells.specs.Cells.{part}
 use Rattle.cells.proofs.CellsLaws.{length_zeros}
-use Rattle.rules.specs.Ttlv.{Items, end, value, structure, Structure, head, item_head, to_eight, padding, encode, size, is_value, FitItems, AreBytes, read_items}
+use Rattle.rules.specs.Ttlv.{Items, end, value, structure, Structure, head, item_head, to_eight, padding, encode, size}
+use Rattle.rules.specs.Ttlv.{is_value, FitItems, AreBytes, read_items}
 use Rattle.rules.proofs.TtlvFrontLaws.{length_head}
 use Rattle.ttlv.specs.declared.Item.{Item}
 use Rattle.ttlv.specs.ItemList.{item, listed, list_of, list_at}
