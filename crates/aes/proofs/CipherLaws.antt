@@ -8,7 +8,8 @@ use native.Mathlib.Omega.{arith}
 use lib.ListN.{length, get_or}
 use lib.Dec.{eqb}
 use borrow.Author.Tests.{eq-eqb}
-use Rattle.rules.specs.Aes.{◌⊞◌, sub_bytes, inv_sub_bytes, shift_rows, inv_shift_rows, mix_columns, inv_mix_columns, add_round_key, key_expansion, round_key}
+use Rattle.rules.specs.Aes.{◌⊞◌, sub_bytes, inv_sub_bytes, shift_rows, inv_shift_rows, mix_columns, inv_mix_columns, add_round_key, key_expansion}
+use Rattle.rules.specs.Aes.{round_key}
 use Rattle.rules.specs.Aes.{rounds, cipher_with, inv_rounds, inv_cipher_with, cipher, inv_cipher}
 use Rattle.rules.specs.AesPromises.{Bytes}
 use Rattle.fips197.specs.Boxes.{sbox, inv_sbox}
@@ -62,7 +63,8 @@ module _ (s k : List ℕ) (hs : Bytes 16 s) (hk : Bytes 16 k) where
   inv_round_of =
       let m : Bytes 16 (inv_mix_columns k) = inv_mix_bytes k hk.small in
       inv_round_is (block_of s) (block_of (inv_mix_columns k)) (block_fits s hs) (block_fits (inv_mix_columns k) m)
-      ∙ ap₂ (λ x y. mirrored (block_of (add_round_key x (inv_mix_columns (inv_sub_bytes (inv_shift_rows y)))))) (bytes_whole (inv_mix_columns k) m) (bytes_whole s hs)
+      ∙ ap₂ (λ x y. mirrored (block_of (add_round_key x (inv_mix_columns (inv_sub_bytes (inv_shift_rows y))))))
+      (bytes_whole (inv_mix_columns k) m) (bytes_whole s hs)
       ∙ ap (λ x. mirrored (block_of x)) (sym (inv_mix-⊞ (inv_sub_bytes (inv_shift_rows s)) k (inv_inner_bytes s hs) hk))
 
 module _ (w : List ℕ) (hw : Bytes 240 w) where
@@ -120,7 +122,8 @@ module _ (k : List ℕ) (hk : Bytes 32 k) (s : Block) (hs : Fit s) where
       ap₂ (cipher_by mix_table sbox) (schedule_is k hk) (sym (block_whole s hs))
       ∙ cipher_by_is (key_expansion k) (expansion_bytes k hk) (bytes_of s) (block_bytes s)
 
-  pub inv_cipher_is : inv_cipher_by inv_mix_table inv_sbox (unmixed_by inv_mix_table sbox (expanded_by sbox (words_of k 8) 52)) s ≡ block_of (inv_cipher k (bytes_of s))
+  pub inv_cipher_is : inv_cipher_by inv_mix_table inv_sbox (unmixed_by inv_mix_table sbox (expanded_by sbox (words_of k 8) 52)) s
+      ≡ block_of (inv_cipher k (bytes_of s))
   unfolding inv_cipher
   inv_cipher_is =
       ap₂ (λ w x. inv_cipher_by inv_mix_table inv_sbox (unmixed_by inv_mix_table sbox w) x) (schedule_is k hk) (sym (block_whole s hs))

@@ -8,7 +8,8 @@ use native.Mathlib.Omega.{arith}
 use lib.ListN.{get_or, get_or-map}
 use Rattle.rules.specs.Fields.{four_bytes}
 use Rattle.rules.specs.AesBytes.{◌⊕◌, if_set, x_times, product_below, ◌•◌, sub_byte, inv_sub_byte}
-use Rattle.rules.specs.Aes.{◌⊞◌, state, sub_bytes, inv_sub_bytes, shift_rows, inv_shift_rows, by_matrix, columns, mix_columns, inv_mix_columns, add_round_key}
+use Rattle.rules.specs.Aes.{◌⊞◌, state, sub_bytes, inv_sub_bytes, shift_rows, inv_shift_rows, by_matrix, columns, mix_columns, inv_mix_columns}
+use Rattle.rules.specs.Aes.{add_round_key}
 use Rattle.fips197.specs.Boxes.{sbox, inv_sbox}
 use Rattle.fips197.proofs.XorLaws.{⊕-byte}
 use Rattle.fips197.proofs.ProductLaws.{•-byte}
@@ -152,7 +153,8 @@ module _ (s k : Block) (hs : Fit s) (hk : Fit k) where
   }
 
   -- the last round of the inverse, mirrored
-  pub inv_last_is : last_of inv_sbox (mirrored s) (mirrored k) ≡ mirrored (block_of (add_round_key (bytes_of k) (inv_sub_bytes (inv_shift_rows (bytes_of s)))))
+  pub inv_last_is : last_of inv_sbox (mirrored s) (mirrored k)
+      ≡ mirrored (block_of (add_round_key (bytes_of k) (inv_sub_bytes (inv_shift_rows (bytes_of s)))))
   unfolding state inv_shift_rows inv_sub_bytes add_round_key ◌⊞◌
   inv_last_is = λ i. record {
     a = substituted inv_sbox inv_sub_byte inv_sub_byte_lem inv_sbox_rule s.a s.d s.c s.b k.a hs.a hk.a i;

@@ -14,7 +14,8 @@ use lib.Dec.{eqb, lit<}
 use Rattle.cells.specs.Cells.{part}
 use Rattle.cells.proofs.CellsLaws.{get_d_part, length_part, part_four}
 use Rattle.rules.specs.AesBytes.{◌⊕◌, sub_byte}
-use Rattle.rules.specs.Aes.{◌⊞◌, sub_bytes, by_matrix, columns, inv_mix_columns, word_of, rot_word, round_constants, rcon, turned, expanded, key_expansion, round_key}
+use Rattle.rules.specs.Aes.{◌⊞◌, sub_bytes, by_matrix, columns, inv_mix_columns, word_of, rot_word, round_constants, rcon, turned, expanded}
+use Rattle.rules.specs.Aes.{key_expansion, round_key}
 use Rattle.rules.specs.AesPromises.{Bytes}
 use Rattle.fips197.specs.Boxes.{sbox}
 use Rattle.fips197.proofs.BytesLaws.{from, part_bytes}
@@ -57,7 +58,8 @@ front_word xs ys i h =
 -- and of what is behind it
 behind_word : (xs ys : List ℕ) (n : ℕ) → length xs ≡ n → word_at (xs ++ ys) n ≡ word_at ys 0
 behind_word xs ys n h =
-    let at : (k : ℕ) → get_or (xs ++ ys) (n + k) 0 ≡ get_or ys k 0 = λ k. ap (λ m. get_or (xs ++ ys) (m + k) 0) (sym h) ∙ get_or-append-add xs ys k 0 in
+    let at : (k : ℕ) → get_or (xs ++ ys) (n + k) 0 ≡ get_or ys k 0 = λ k. ap (λ m. get_or (xs ++ ys) (m + k) 0) (sym h)
+    ∙ get_or-append-add xs ys k 0 in
     let z : get_or (xs ++ ys) n 0 ≡ get_or ys 0 0 = ap (λ m. get_or (xs ++ ys) m 0) (sym (add-zero n)) ∙ at 0 in
     λ k. word4 (z k) (at 1 k) (at 2 k) (at 3 k)
 
@@ -243,7 +245,8 @@ unmixed w = unmixed_by inv_mix_table sbox (words_of w 60)
 module _ (w : List ℕ) (hw : Bytes 240 w) where
   pub first_key : key_at (unmixed w) 0 ≡ block_of (round_key w 0)
   first_key =
-      let at : (i : ℕ) → i < 4 → get_or (unmixed w) i 0 ≡ get_or (words_of w 60) i 0 = unmixed_first inv_mix_table sbox (words_of w 60) (words_length w 60) in
+      let at : (i : ℕ) → i < 4 → get_or (unmixed w) i 0 ≡ get_or (words_of w 60) i 0 =
+      unmixed_first inv_mix_table sbox (words_of w 60) (words_length w 60) in
       let a = at 0 (lit< tt) in
       let b = at 1 (lit< tt) in
       let c = at 2 (lit< tt) in

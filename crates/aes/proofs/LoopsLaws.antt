@@ -43,7 +43,8 @@ unfolding rounds_by
 rounds_more table w r s =
     ap (λ n. round_of table (rounds_by table w r s) (key_at w n)) (add-one r) ∙ ap (λ n. rounds_by table w n s) (sym (add-one r))
 
-pub back_more : (table w : List ℕ) (r : ℕ) (s : Block) → 0 < r → back_by table w (r - 1) (round_of table s (mirrored (key_at w r))) ≡ back_by table w r s
+pub back_more : (table w : List ℕ) (r : ℕ) (s : Block) → 0 < r → back_by table w (r - 1) (round_of table s (mirrored (key_at w r)))
+    ≡ back_by table w r s
 unfolding back_by
 back_more table w zero s h = absurd (omega arith)
 back_more table w (suc r) s h =

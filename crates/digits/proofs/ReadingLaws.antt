@@ -1,7 +1,9 @@
 -- The first bad digit, found by a walk from the front; the largest value on the
 -- way; pairs of digits, decoded one after the other.
 -- Assumes nothing.
-use Rattle.std.proofs.Common.{◌≡◌, ℕ, suc, ◌+◌, ◌*◌, ◌/◌, ◌%◌, ◌<◌, ◌≤◌, Bool, true, false, cond, ◌&&◌, ltb, leb, List, [], ◌∷◌, ◌++◌, length, get_or, take, drop, set, sym, refl, ap, ◌∙◌, append_assoc, append-nil, add-one, arith, drop_of_length-le, length-take-le, take_all, drop-cons, take-suc, le-ltb, lt-ltb, eq-eqb, ne_eqb, leb-true}
+use Rattle.std.proofs.Common.{◌≡◌, ℕ, suc, ◌+◌, ◌*◌, ◌/◌, ◌%◌, ◌<◌, ◌≤◌, Bool, true, false, cond, ◌&&◌, ltb, leb, List}
+use Rattle.std.proofs.Common.{[], ◌∷◌, ◌++◌, length, get_or, take, drop, set, sym, refl, ap, ◌∙◌, append_assoc, append-nil, add-one, arith}
+use Rattle.std.proofs.Common.{drop_of_length-le, length-take-le, take_all, drop-cons, take-suc, le-ltb, lt-ltb, eq-eqb, ne_eqb, leb-true}
 use mathlib.Core.Logic.{by_cases}
 use native.Mathlib.Decide.{dec_lt}
 use borrow.Author.Tests.{eqb-false}
@@ -95,7 +97,8 @@ module _ (line : List ℕ) (i : ℕ) where
   front h = length-take-le (i * 2) line h
 
   next_pair : i * 2 + 1 < length line
-      → decoded (take ((i + 1) * 2) line) ≡ decoded (take (i * 2) line) ++ ((value_of (get_or line (i * 2) 0) * 16 + value_of (get_or line (i * 2 + 1) 0)) ∷ [])
+      → decoded (take ((i + 1) * 2) line)
+      ≡ decoded (take (i * 2) line) ++ ((value_of (get_or line (i * 2) 0) * 16 + value_of (get_or line (i * 2 + 1) 0)) ∷ [])
   unfolding decoded
   next_pair h =
       let x : ℕ = get_or line (i * 2) 0 in

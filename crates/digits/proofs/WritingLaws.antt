@@ -1,7 +1,9 @@
 -- Bytes as digits, written one byte after the other, and the line of an answer
 -- that has these bytes.
 -- Assumes nothing.
-use Rattle.std.proofs.Common.{◌≡◌, ℕ, ◌+◌, ◌*◌, ◌/◌, ◌%◌, ◌<◌, ◌≤◌, Bool, true, false, cond, leb, List, [], ◌∷◌, ◌++◌, length, get_or, take, drop, set, sym, refl, ap, ◌∙◌, append_assoc, add-one, arith, length-append, length-take-le, take-suc, le-leb}
+use Rattle.std.proofs.Common.{◌≡◌, ℕ, ◌+◌, ◌*◌, ◌/◌, ◌%◌, ◌<◌, ◌≤◌, Bool, true, false, cond, leb, List, [], ◌∷◌}
+use Rattle.std.proofs.Common.{◌++◌, length, get_or, take, drop, set, sym, refl, ap, ◌∙◌, append_assoc, add-one, arith, length-append}
+use Rattle.std.proofs.Common.{length-take-le, take-suc, le-leb}
 use mathlib.Core.Option.{Option, none, some}
 use borrow.Author.Tests.{lt-leb}
 use Rattle.cells.proofs.CellsLaws.{grow}
@@ -63,7 +65,8 @@ module _ (a : Answer) (bs out : List ℕ) (has : answer_bytes a ≡ bs) where
 
   -- the digits stand, and the line feed goes behind them
   pub wrote_all : length bs * 2 < length out
-      → ◌≡◌ {A = Wrote} (record { bytes = length bs * 2 + 1; out = set (digits_of bs ++ drop (length bs * 2) out) (length bs * 2) line_feed }) (wrote a out)
+      → ◌≡◌ {A = Wrote} (record { bytes = length bs * 2 + 1; out = set (digits_of bs ++ drop (length bs * 2) out) (length bs * 2) line_feed })
+      (wrote a out)
   unfolding wrote
   wrote_all h =
       rw (length_line, le-leb (length bs * 2 + 1) (length out) (omega arith), line_is, grow (digits_of bs) out (length bs * 2) line_feed (length_digits bs) h)

@@ -1,7 +1,8 @@
 -- Rules taken apart as the code takes them: a line as what was read of it, the
 -- shared checks first, then what is done at the place that they lead to.
 -- Assumes nothing.
-use Rattle.std.proofs.Common.{◌≡◌, ℕ, ◌+◌, ◌-◌, ◌/◌, ◌<◌, ◌≤◌, Bool, true, false, not, ◌&&◌, List, [], ◌∷◌, ◌++◌, length, take, drop, sym, refl, ap, ◌∙◌, true≢false, arith, length-append, length-drop, length-take-le, take_at, drop_at}
+use Rattle.std.proofs.Common.{◌≡◌, ℕ, ◌+◌, ◌-◌, ◌/◌, ◌<◌, ◌≤◌, Bool, true, false, not, ◌&&◌, List, [], ◌∷◌, ◌++◌}
+use Rattle.std.proofs.Common.{length, take, drop, sym, refl, ap, ◌∙◌, true≢false, arith, length-append, length-drop, length-take-le, take_at, drop_at}
 use Rattle.cells.specs.Cells.{cell, zeros}
 use Rattle.cells.specs.Predicates.{same}
 use Rattle.cells.proofs.CellsLaws.{length_zeros, zeros_join, lent_length_to, back_rest}

@@ -1,7 +1,9 @@
 -- I/O: where a known command leads, as an outcome; and the kept identity of a
 -- slot's key, which is the front of the slot's bytes.
 -- Assumes nothing.
-use Rattle.std.proofs.Common.{◌≡◌, ℕ, ◌+◌, ◌-◌, ◌*◌, ◌<◌, ◌≤◌, Bool, true, false, cond, not, ◌&&◌, ◌||◌, ltb, leb, List, [], ◌∷◌, ◌++◌, length, take, sym, refl, ap, ◌∙◌, ⊎_elim, true≢false, append-nil, add-zero, arith, length-take-le, take_all, ltb-false, eq-eqb, ne_eqb, eqb-true, le-leb}
+use Rattle.std.proofs.Common.{◌≡◌, ℕ, ◌+◌, ◌-◌, ◌*◌, ◌<◌, ◌≤◌, Bool, true, false, cond, not, ◌&&◌, ◌||◌, ltb, leb, List}
+use Rattle.std.proofs.Common.{[], ◌∷◌, ◌++◌, length, take, sym, refl, ap, ◌∙◌, ⊎_elim, true≢false, append-nil, add-zero, arith}
+use Rattle.std.proofs.Common.{length-take-le, take_all, ltb-false, eq-eqb, ne_eqb, eqb-true, le-leb}
 use mathlib.Core.Logic.{by_cases}
 use native.Mathlib.Decide.{dec_lt}
 use lib.Seq.{take-append-le, take-append-add}

@@ -1,6 +1,7 @@
 -- What the tests and the calls of the frames on keys say, in the rules' words.
 -- Assumes nothing.
-use Rattle.std.proofs.Common.{◌≡◌, ℕ, ◌-◌, ◌<◌, Bool, true, false, cond, not, ◌&&◌, eqb, List, [], ◌∷◌, ◌++◌, length, take, drop, sym, refl, ap, ◌∙◌, ap₂, arith, length-append, length-drop, take_at, eq-eqb, ne_eqb}
+use Rattle.std.proofs.Common.{◌≡◌, ℕ, ◌-◌, ◌<◌, Bool, true, false, cond, not, ◌&&◌, eqb, List, [], ◌∷◌, ◌++◌, length, take}
+use Rattle.std.proofs.Common.{drop, sym, refl, ap, ◌∙◌, ap₂, arith, length-append, length-drop, take_at, eq-eqb, ne_eqb}
 use borrow.Author.Tests.{not-true, not-false}
 use Rattle.cells.specs.Cells.{zeros, cell, fill}
 use Rattle.cells.proofs.CellsLaws.{length_zeros, copied, back_rest}
@@ -62,7 +63,8 @@ pub right_store : (marks : List ℕ) → length marks ≡ store_size → wrong_s
 right_store marks size = ap not (eq-eqb (length marks) store_size size)
 
 -- a cache emptied, and the key-encryption key behind its slots
-module _ (kek keys : List ℕ) (long : length kek ≡ kek_size) (size : length keys ≡ cache_size) (cleared : List ℕ) (e : cleared ≡ cleared_all keys) where
+module _ (kek keys : List ℕ) (long : length kek ≡ kek_size) (size : length keys ≡ cache_size)
+    (cleared : List ℕ) (e : cleared ≡ cleared_all keys) where
   cleared_is : cleared ≡ zeros slots_size ++ drop slots_size keys
   cleared_is = e ∙ cleared_all_zeros keys ∙ ap (λ b. cond b keys (zeros slots_size ++ drop slots_size keys)) (right_cache keys size)
 

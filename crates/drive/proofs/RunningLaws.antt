@@ -1,6 +1,7 @@
 -- What holds after each line of a session.
 -- Assumes nothing.
-use Rattle.std.proofs.Common.{◌≡◌, ℕ, ◌+◌, ◌-◌, ◌≤◌, List, [], ◌∷◌, ◌++◌, length, take, drop, sym, refl, ap, ◌∙◌, append_assoc, append-nil, arith, length-drop, take-append-drop, length-take-le, drop-drop, le-leb}
+use Rattle.std.proofs.Common.{◌≡◌, ℕ, ◌+◌, ◌-◌, ◌≤◌, List, [], ◌∷◌, ◌++◌, length, take, drop, sym, refl, ap, ◌∙◌}
+use Rattle.std.proofs.Common.{append_assoc, append-nil, arith, length-drop, take-append-drop, length-take-le, drop-drop, le-leb}
 use Rattle.cells.specs.Cells.{part, write}
 use Rattle.cells.proofs.CellsLaws.{lent_rest, back_rest, length_write, drop_write, write_end}
 use Rattle.rules.specs.declared.Answer.TheVariants.{Done}

@@ -1,7 +1,8 @@
 -- A wrapped load as the code takes it apart: the slot's checks, then 07 10 or a load
 -- of the key that was opened where it lay.
 -- Assumes nothing.
-use Rattle.std.proofs.Common.{◌≡◌, ℕ, ◌+◌, ◌≤◌, true, false, List, [], ◌++◌, length, drop, sym, refl, ap, ◌∙◌, true≢false, arith, length-append, eq-eqb}
+use Rattle.std.proofs.Common.{◌≡◌, ℕ, ◌+◌, ◌≤◌, true, false, List, [], ◌++◌, length, drop, sym, refl, ap, ◌∙◌, true≢false}
+use Rattle.std.proofs.Common.{arith, length-append, eq-eqb}
 use mathlib.Core.Option.{Option, none, some}
 use Rattle.cells.specs.Cells.{part, write}
 use Rattle.cells.proofs.CellsLaws.{length_part, length_write, part_write_in, part_write_before, drop_write, length_zeros, part_whole}

@@ -191,7 +191,8 @@ module _ (n : ℕ) (xs : List ℕ) (h : n ≤ length xs) where
   d = take n xs
 
   -- by the kind
-  kind_stays : (k : ℕ) → (k ≡ 13 → ⊥) → AllPass (get_or (kinds d) k unknown_kind).checks → placed (get_or (kinds d) k unknown_kind).frame xs ≡ xs
+  kind_stays : (k : ℕ) → (k ≡ 13 → ⊥) → AllPass (get_or (kinds d) k unknown_kind).checks
+      → placed (get_or (kinds d) k unknown_kind).frame xs ≡ xs
   unfolding kinds read_replace read_wrapped
   kind_stays zero m p = refl
   kind_stays (suc zero) m p = refl

@@ -64,7 +64,8 @@ skip_others : (ns tag : ℕ) (p q : Bool) (items : Items) → others_good ns tag
 unfolding others_good
 skip_others ns tag p q items =
     ap (λ e. e && (p || has_value ns (named namespace_name items)) && (q || has_value tag (named tag_name items))) (skip_each items)
-    ∙ ap (λ x. each_vendored (from Attribute items) && (p || has_value ns x) && (q || has_value tag (named tag_name items))) (skip_named namespace_name items)
+    ∙ ap (λ x. each_vendored (from Attribute items) && (p || has_value ns x) && (q || has_value tag (named tag_name items)))
+    (skip_named namespace_name items)
     ∙ ap (λ x. each_vendored (from Attribute items) && (p || has_value ns (named namespace_name (from Attribute items))) && (q || has_value tag x))
     (skip_named tag_name items)
 

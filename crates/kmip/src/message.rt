@@ -1,7 +1,8 @@
 // A message, from the payload out. Every member is looked for, whatever was found before: of a message that is refused nothing is kept.
 ghost use Rattle.std.specs.Prelude.{◌≡◌, true, false};
 ghost use Rattle.rules.specs.Ttlv.{Items};
-ghost use Rattle.rules.specs.Kmip.{payload_good, brought_by, in_order, batch_item, request_header, request_message, from, behind_of, members_of, structure_then};
+ghost use Rattle.rules.specs.Kmip.{payload_good, brought_by, in_order, batch_item, request_header, request_message, from, behind_of, members_of};
+ghost use Rattle.rules.specs.Kmip.{structure_then};
 ghost use Rattle.rules.specs.Kmip.{BatchItem, RequestHeader};
 ghost use Rattle.kmip.specs.Reading.{Requested};
 ghost use Rattle.kmip.specs.Runs.{Runs, Stepped, Brought, payload_of};

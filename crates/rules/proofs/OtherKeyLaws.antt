@@ -60,5 +60,6 @@ same_key s x e ns tag is l u =
     let c = slot s ns tag in
     let z : 0 + place_of ns tag ≡ place_of ns tag = omega arith in
     let passes : other_key_in x c ≡ false =
-    rw z at (none_then slot_width (λ place c. other_key_in x c) slot_places 0 s.keys (sym (other_key_lem s x) ∙ e) (place_of ns tag) (place_small ns tag is)) in
+    rw z at (none_then slot_width (λ place c. other_key_in x c) slot_places 0 s.keys (sym (other_key_lem s x) ∙ e)
+    (place_of ns tag) (place_small ns tag is)) in
     same_eq (key_of c) x.key (no_other (loaded c) (same (uid_of c) x.uid) (same (key_of c) x.key) passes l (rw u (same_refl x.uid)))

@@ -80,7 +80,8 @@ module _ (s : State) (sound : unsound s ≡ false) where
   -- a namespace, counted from 0, in a cache where its slots are still the state's
   up_to_all : (keys : List ℕ) → length keys ≡ cache_size → (ns : ℕ) → ns < namespaces
       → ((i : ℕ) → ns * tags_most ≤ i → cell slot_width i keys ≡ cell slot_width i s.keys)
-      → fill slot_width (ns * tags_most) (tags_up_to (get_or s.registers.counts ns 0)) emptied keys ≡ fill slot_width (ns * tags_most) tags_most emptied keys
+      → fill slot_width (ns * tags_most) (tags_up_to (get_or s.registers.counts ns 0)) emptied keys
+      ≡ fill slot_width (ns * tags_most) tags_most emptied keys
   up_to_all keys size ns h stays =
       let n : ℕ = get_or s.registers.counts ns 0 in
       let most : get_or s.registers.counts ns 0 ≤ tags_most = above_none tags_most s.registers.counts (sound_counts s sound) ns in

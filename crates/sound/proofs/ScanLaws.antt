@@ -41,7 +41,8 @@ module _ (f : ℕ → List ℕ → Bool) (keys : List ℕ) where
       ∙ some_split slot_width f (ns * tags_most) tags_most ((namespaces - (ns + 1)) * tags_most) keys
       ∙ ap (λ k. some_cell slot_width (ns * tags_most) tags_most f keys || some_cell slot_width k ((namespaces - (ns + 1)) * tags_most) f keys) a
       ∙ ap (λ b. b || rest f keys (ns + 1))
-      (some_same slot_width f g (ns * tags_most) tags_most keys (λ k l. agree (ns * tags_most + k) (omega arith) (cell slot_width (ns * tags_most + k) keys)) ∙ e)
+      (some_same slot_width f g (ns * tags_most) tags_most keys
+      (λ k l. agree (ns * tags_most + k) (omega arith) (cell slot_width (ns * tags_most + k) keys)) ∙ e)
 
   pub rest_end : (ns : ℕ) → ns ≡ namespaces → rest f keys ns ≡ false
   rest_end ns e = ap (rest f keys) e ∙ some_start slot_width f slot_places keys
@@ -90,7 +91,8 @@ namespace_unsound keys ns count h =
     ap (λ k. some_cell slot_width first k (unsound_by count) keys) n
     ∙ some_split slot_width (unsound_by count) first count (tags_most - count) keys
     ∙ ap (λ b. b || some_cell slot_width (first + count) (tags_most - count) (unsound_by count) keys)
-    (some_same slot_width (unsound_by count) allocated_unsound first count keys (λ k l. ap (λ u. slot_unsound u (cell slot_width (first + k) keys)) (below k l)))
+    (some_same slot_width (unsound_by count) allocated_unsound first count keys
+    (λ k l. ap (λ u. slot_unsound u (cell slot_width (first + k) keys)) (below k l)))
     ∙ ap (λ b. some_cell slot_width first count allocated_unsound keys || b)
     (some_same slot_width (unsound_by count) marked (first + count) (tags_most - count) keys
     (λ k l. ap (λ u. slot_unsound u (cell slot_width (first + count + k) keys)) (above k l) ∙ unallocated_marked (cell slot_width (first + count + k) keys))

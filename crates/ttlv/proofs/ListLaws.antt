@@ -123,7 +123,8 @@ module _ (d at : ℕ) (xs : List ℕ) (some_bytes : 0 < length xs) (within : d �
 
   pub list_structure : (tag : ℕ) (ms rest : List ℕ) → front xs ≡ a_structure tag ms rest
       → list_at d at xs
-      ≡ join (one (item tag Structure d (at + item_head) (length ms))) (join (list_at (suc d) (at + item_head) ms) (list_at d (at + item_head + length ms) rest))
+      ≡ join (one (item tag Structure d (at + item_head) (length ms)))
+      (join (list_at (suc d) (at + item_head) ms) (list_at d (at + item_head + length ms) rest))
   unfolding on_front list_at
   list_structure tag ms rest e =
       on_front_lem (a_structure tag ms rest) e ∙ list_with_structure d at tag ms (read_at (suc d) ms) (read_at d rest) (size_read (suc d) ms)

@@ -159,7 +159,8 @@ module _ {xs places now ends : List ℕ} {levels at count : ℕ} (t : Turn xs pl
     value_places = lent n value_inside
 
     pub value_more : (r : List ℕ)
-        → r ≡ numbers_of (item tag kind levels (at + item_head) n) ++ drop item_places (take (length now - item_places * count) (drop (item_places * count) now))
+        → r ≡ numbers_of (item tag kind levels (at + item_head) n) ++ drop item_places
+        (take (length now - item_places * count) (drop (item_places * count) now))
         → let from = item_places * count in
         Filling xs places (take from now ++ (r ++ drop (length now - from) (drop from now))) ends levels next (count + 1)
     value_more r e =

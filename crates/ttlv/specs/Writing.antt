@@ -2,7 +2,8 @@
 -- depths say which item is a member of which, and a structure's own start and
 -- length are not looked at.
 -- Assumes nothing.
-use Rattle.std.specs.Prelude.{Bool, true, false, ◌&&◌, ◌||◌, cond, List, [], ◌∷◌, ◌++◌, ℕ, zero, suc, ◌+◌, ◌*◌, ◌^◌, length, drop, eqb, ltb, leb}
+use Rattle.std.specs.Prelude.{Bool, true, false, ◌&&◌, ◌||◌, cond, List, [], ◌∷◌, ◌++◌, ℕ, zero, suc, ◌+◌, ◌*◌, ◌^◌, length}
+use Rattle.std.specs.Prelude.{drop, eqb, ltb, leb}
 use Rattle.cells.specs.Cells.{part}
 use Rattle.rules.specs.Ttlv.{Items, end, value, structure, Structure, item_head, to_eight, encode, deepest, is_value}
 use Rattle.ttlv.specs.declared.Item.{Item}

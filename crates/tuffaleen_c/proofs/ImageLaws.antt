@@ -22,7 +22,8 @@ use Rattle.rules.specs.Locks.{lock_value}
 use Rattle.rules.specs.Start.{start}
 use Rattle.rules.specs.Call.{Called, call}
 use Rattle.rules.specs.Sessions.{Session, session}
-use Rattle.tuffaleen_c.specs.Image.{registers_size, image_size, lock_of, no_lock, lock_byte0, lock_byte1, wrong_length, no_image, registers_in, keys_in, state_in}
+use Rattle.tuffaleen_c.specs.Image.{registers_size, image_size, lock_of, no_lock, lock_byte0, lock_byte1, wrong_length, no_image, registers_in, keys_in}
+use Rattle.tuffaleen_c.specs.Image.{state_in}
 use Rattle.tuffaleen_c.specs.Image.{registers_bytes, image_of, saved, CStarted, c_start, CCalled, c_call, CSession, c_session}
 
 -- ------------------------------------------------------------------------

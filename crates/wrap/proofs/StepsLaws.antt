@@ -319,7 +319,8 @@ module _ (w : List ℕ) (hw : Bytes 240 w) where
   unfolding unwrap_steps_by unwrap_steps
   unwrap_steps_is zero h s hs = refl
   unwrap_steps_is (suc t) h s hs =
-      ap (unwrap_steps_by (inv_cipher_by inv_mix_table inv_sbox (unmixed_by inv_mix_table sbox (words_of w 60))) t) (unwrap_step_is (suc t) (omega arith) h s hs)
+      ap (unwrap_steps_by (inv_cipher_by inv_mix_table inv_sbox (unmixed_by inv_mix_table sbox (words_of w 60))) t)
+      (unwrap_step_is (suc t) (omega arith) h s hs)
       ∙ unwrap_steps_is t (omega arith) (unwrap_step w (suc t) s) (unwrap_step_bytes (suc t) (omega arith) h s hs)
 
 -- as the code has it: over the words that it expanded

@@ -1,6 +1,7 @@
 -- `digits::read_line` meets its contract: each way out computes the list of checks by the tests that led there.
 -- Assumes nothing.
-use Rattle.std.proofs.Common.{◌≡◌, ℕ, List, true, ◌/◌, ◌≤◌, length, drop, sym, ◌∙◌, arith, le-ltb, lt-ltb, eq-eqb, ne_eqb, eqb-true, le-leb}
+use Rattle.std.proofs.Common.{◌≡◌, ℕ, List, true, ◌/◌, ◌≤◌, length, drop, sym, ◌∙◌, arith, le-ltb, lt-ltb, eq-eqb, ne_eqb, eqb-true}
+use Rattle.std.proofs.Common.{le-leb}
 use borrow.Author.Tests.{lt-leb}
 use Rattle.rules.specs.declared.LineRead.TheVariants.{Bytes, Bad}
 use Rattle.rules.specs.Checks.{judged}

@@ -29,32 +29,24 @@ returns-then-out-n c =
 
 pub returns-then-not-good_list : goal.returns-then-not-good_list
 returns-then-not-good_list c =
-    let room : (let s = c.args in
-    room_for (items_in s.count s.items.now) ≤ length s.out.now) = let e = c.total_room-n.ensures in
-    omega arith in
     let s = c.args in
+    let room : room_for (items_in s.count s.items.now) ≤ length s.out.now = omega (arith, c.total_room-n.ensures) in
     let no = sym c.good_list.ensures ∙ c.if-not-good_list.true in
     wrote_bad s.items.now s.count s.values.now s.out.now c.if-count-gt-ITEMS_MOST.false c.if-items-count.false room no
 
 pub returns-then-n-ge-LENGTHS : goal.returns-then-n-ge-LENGTHS
 returns-then-n-ge-LENGTHS c =
-    let room : (let s = c.args in
-    room_for (items_in s.count s.items.now) ≤ length s.out.now) = let e = c.total_room-n.ensures in
-    omega arith in
-    let good : (let s = c.args in
-    good_from (length s.values.now) 1 (items_in s.count s.items.now) ≡ true) = sym c.good_list.ensures ∙ c.if-not-good_list.false in
     let s = c.args in
+    let room : room_for (items_in s.count s.items.now) ≤ length s.out.now = omega (arith, c.total_room-n.ensures) in
+    let good = sym c.good_list.ensures ∙ c.if-not-good_list.false in
     let n = c.total_room-n.ensures in
     wrote_long s.items.now s.count s.values.now s.out.now c.if-count-gt-ITEMS_MOST.false c.if-items-count.false room good (omega arith)
 
 pub lay-n-requires : goal.lay-n-requires
 lay-n-requires c =
-    let room : (let s = c.args in
-    room_for (items_in s.count s.items.now) ≤ length s.out.now) = let e = c.total_room-n.ensures in
-    omega arith in
-    let good : (let s = c.args in
-    good_from (length s.values.now) 1 (items_in s.count s.items.now) ≡ true) = sym c.good_list.ensures ∙ c.if-not-good_list.false in
     let s = c.args in
+    let room : room_for (items_in s.count s.items.now) ≤ length s.out.now = omega (arith, c.total_room-n.ensures) in
+    let good = sym c.good_list.ensures ∙ c.if-not-good_list.false in
     let n = c.total_room-n.ensures in
     let is = items_in s.count s.items.now in
     record {
@@ -66,12 +58,9 @@ lay-n-requires c =
 
 pub returns : goal.returns
 returns c =
-    let room : (let s = c.args in
-    room_for (items_in s.count s.items.now) ≤ length s.out.now) = let e = c.total_room-n.ensures in
-    omega arith in
-    let good : (let s = c.args in
-    good_from (length s.values.now) 1 (items_in s.count s.items.now) ≡ true) = sym c.good_list.ensures ∙ c.if-not-good_list.false in
     let s = c.args in
+    let room : room_for (items_in s.count s.items.now) ≤ length s.out.now = omega (arith, c.total_room-n.ensures) in
+    let good = sym c.good_list.ensures ∙ c.if-not-good_list.false in
     let n = c.total_room-n.ensures in
     wrote_all s.items.now s.count s.values.now s.out.now c.if-count-gt-ITEMS_MOST.false c.if-items-count.false room good (omega arith)
     c.lay-n.result c.lay-n.new.out c.lay-n.ensures

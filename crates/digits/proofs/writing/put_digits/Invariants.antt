@@ -4,7 +4,8 @@ use Rattle.rules.specs.Answers.{digits_of}
 use Rattle.digits.proofs.writing.put_digits.Given as goal
 
 abbrev pub invariant-loop-i : goal.invariant-loop-i
-invariant-loop-i l = (l.out ≡ digits_of (take l.i l.bytes) ++ drop (l.i * 2) l.initial.out) × (l.i ≤ length l.bytes) × (length l.out ≡ length l.initial.out)
+invariant-loop-i l = (l.out ≡ digits_of (take l.i l.bytes) ++ drop (l.i * 2) l.initial.out)
+    × (l.i ≤ length l.bytes) × (length l.out ≡ length l.initial.out)
 
 abbrev pub decreases-loop-i : goal.decreases-loop-i
 decreases-loop-i l = length l.bytes - l.i

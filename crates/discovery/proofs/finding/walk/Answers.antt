@@ -21,22 +21,19 @@ returns-then-next-eq0 c =
 
 pub word-code-requires : goal.word-code-requires
 word-code-requires c =
-    let whole : ((c.next_feature-next.result ≡ c.loop-at.at + head_size + byte (c.loop-at.at + 3) c.args.d.now) × (c.next_feature-next.result ≤ c.args.end)) =
-    next_whole c.args.d.now c.args.end c.loop-at.at c.requires.1 c.loop-at-test.true c.next_feature-next.result
+    let whole = next_whole c.args.d.now c.args.end c.loop-at.at c.requires.1 c.loop-at-test.true c.next_feature-next.result
     c.next_feature-next.ensures c.if-next-eq0.false in
     omega (arith, whole.0, whole.1)
 
 pub loop-at-smaller : goal.loop-at-smaller
 loop-at-smaller c =
-    let whole : ((c.next_feature-next.result ≡ c.loop-at.at + head_size + byte (c.loop-at.at + 3) c.args.d.now) × (c.next_feature-next.result ≤ c.args.end)) =
-    next_whole c.args.d.now c.args.end c.loop-at.at c.requires.1 c.loop-at-test.true c.next_feature-next.result
+    let whole = next_whole c.args.d.now c.args.end c.loop-at.at c.requires.1 c.loop-at-test.true c.next_feature-next.result
     c.next_feature-next.ensures c.if-next-eq0.false in
     omega (arith, whole.0, whole.1)
 
 pub loop-at-preserved : goal.loop-at-preserved
 loop-at-preserved c =
-    let whole : ((c.next_feature-next.result ≡ c.loop-at.at + head_size + byte (c.loop-at.at + 3) c.args.d.now) × (c.next_feature-next.result ≤ c.args.end)) =
-    next_whole c.args.d.now c.args.end c.loop-at.at c.requires.1 c.loop-at-test.true c.next_feature-next.result
+    let whole = next_whole c.args.d.now c.args.end c.loop-at.at c.requires.1 c.loop-at-test.true c.next_feature-next.result
     c.next_feature-next.ensures c.if-next-eq0.false in
     let d = c.args.d.now in
     let at = c.loop-at.at in

@@ -15,7 +15,8 @@ pub returns-in-Value : goal.returns-in-Value
 returns-in-Value c =
     λ items r.
     let s = c.args in
-    sym (lacks_value s.bytes.now c.find-place.result.at s.end s.tag items (c.find-place.ensures.0 items r) _ _ _ _ (sym c.find-place.ensures.2 ∙ c.in-Value.is))
+    sym (lacks_value s.bytes.now c.find-place.result.at s.end s.tag items (c.find-place.ensures.0 items r)
+    _ _ _ _ (sym c.find-place.ensures.2 ∙ c.in-Value.is))
 
 pub returns-in-Structure : goal.returns-in-Structure
 returns-in-Structure c =

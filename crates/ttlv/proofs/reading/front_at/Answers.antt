@@ -19,14 +19,9 @@ returns-then-end-at-lt-ITEM_HEAD c =
 
 pub returns-then-length-room : goal.returns-then-length-room
 returns-then-length-room c =
-    let at_head : (let s = c.args in
-    let h = c.head_at-head.result in
-    front (part s.at (s.end - s.at) s.bytes.now)
-    ≡ front_of h.tag h.kind h.length (part (s.at + item_head) (s.end - (s.at + item_head)) s.bytes.now)) = let s = c.args in
-    let p = c.requires in
-    front_run s.bytes.now s.at s.end p.0 p.1 (omega arith) c.head_at-head.result c.head_at-head.ensures in
     let s = c.args in
     let p = c.requires in
+    let at_head = front_run s.bytes.now s.at s.end p.0 p.1 (omega arith) c.head_at-head.result c.head_at-head.ensures in
     let h = c.head_at-head.result in
     let l : s.at + item_head ≤ s.end = omega arith in
     record {
@@ -36,14 +31,9 @@ returns-then-length-room c =
 
 pub returns-then-kind-eq-STRUCTURE : goal.returns-then-kind-eq-STRUCTURE
 returns-then-kind-eq-STRUCTURE c =
-    let at_head : (let s = c.args in
-    let h = c.head_at-head.result in
-    front (part s.at (s.end - s.at) s.bytes.now)
-    ≡ front_of h.tag h.kind h.length (part (s.at + item_head) (s.end - (s.at + item_head)) s.bytes.now)) = let s = c.args in
-    let p = c.requires in
-    front_run s.bytes.now s.at s.end p.0 p.1 (omega arith) c.head_at-head.result c.head_at-head.ensures in
     let s = c.args in
     let p = c.requires in
+    let at_head = front_run s.bytes.now s.at s.end p.0 p.1 (omega arith) c.head_at-head.result c.head_at-head.ensures in
     let h = c.head_at-head.result in
     let l : s.at + item_head ≤ s.end = omega arith in
     record {
@@ -53,14 +43,9 @@ returns-then-kind-eq-STRUCTURE c =
 
 pub returns-then-not-is_value : goal.returns-then-not-is_value
 returns-then-not-is_value c =
-    let at_head : (let s = c.args in
-    let h = c.head_at-head.result in
-    front (part s.at (s.end - s.at) s.bytes.now)
-    ≡ front_of h.tag h.kind h.length (part (s.at + item_head) (s.end - (s.at + item_head)) s.bytes.now)) = let s = c.args in
-    let p = c.requires in
-    front_run s.bytes.now s.at s.end p.0 p.1 (omega arith) c.head_at-head.result c.head_at-head.ensures in
     let s = c.args in
     let p = c.requires in
+    let at_head = front_run s.bytes.now s.at s.end p.0 p.1 (omega arith) c.head_at-head.result c.head_at-head.ensures in
     let h = c.head_at-head.result in
     let l : s.at + item_head ≤ s.end = omega arith in
     let no = sym c.is_value.ensures ∙ c.if-not-is_value.true in
@@ -71,15 +56,10 @@ returns-then-not-is_value c =
 
 pub returns-then-whole-room : goal.returns-then-whole-room
 returns-then-whole-room c =
-    let at_head : (let s = c.args in
-    let h = c.head_at-head.result in
-    front (part s.at (s.end - s.at) s.bytes.now)
-    ≡ front_of h.tag h.kind h.length (part (s.at + item_head) (s.end - (s.at + item_head)) s.bytes.now)) = let s = c.args in
-    let p = c.requires in
-    front_run s.bytes.now s.at s.end p.0 p.1 (omega arith) c.head_at-head.result c.head_at-head.ensures in
-    let valued : is_value c.head_at-head.result.kind c.head_at-head.result.length ≡ true = sym c.is_value.ensures ∙ c.if-not-is_value.false in
     let s = c.args in
     let p = c.requires in
+    let at_head = front_run s.bytes.now s.at s.end p.0 p.1 (omega arith) c.head_at-head.result c.head_at-head.ensures in
+    let valued = sym c.is_value.ensures ∙ c.if-not-is_value.false in
     let h = c.head_at-head.result in
     let l : s.at + item_head ≤ s.end = omega arith in
     record {
@@ -91,19 +71,11 @@ returns-then-whole-room c =
 
 pub returns-then-not-all_zero : goal.returns-then-not-all_zero
 returns-then-not-all_zero c =
-    let at_head : (let s = c.args in
-    let h = c.head_at-head.result in
-    front (part s.at (s.end - s.at) s.bytes.now)
-    ≡ front_of h.tag h.kind h.length (part (s.at + item_head) (s.end - (s.at + item_head)) s.bytes.now)) = let s = c.args in
-    let p = c.requires in
-    front_run s.bytes.now s.at s.end p.0 p.1 (omega arith) c.head_at-head.result c.head_at-head.ensures in
-    let valued : is_value c.head_at-head.result.kind c.head_at-head.result.length ≡ true = sym c.is_value.ensures ∙ c.if-not-is_value.false in
-    let padding : (let s = c.args in
-    let h = c.head_at-head.result in
-    c.all_zero.result ≡ all_zero (part (s.at + item_head + h.length) (to_eight h.length - h.length) s.bytes.now)) = let s = c.args in
-    c.all_zero.ensures ∙ ap all_zero (lent_padding (s.at + item_head) c.head_at-head.result.length s.bytes.now) in
     let s = c.args in
     let p = c.requires in
+    let at_head = front_run s.bytes.now s.at s.end p.0 p.1 (omega arith) c.head_at-head.result c.head_at-head.ensures in
+    let valued = sym c.is_value.ensures ∙ c.if-not-is_value.false in
+    let padding = c.all_zero.ensures ∙ ap all_zero (lent_padding (s.at + item_head) c.head_at-head.result.length s.bytes.now) in
     let h = c.head_at-head.result in
     let l : s.at + item_head ≤ s.end = omega arith in
     let no = sym padding ∙ c.if-not-all_zero.true in
@@ -116,19 +88,11 @@ returns-then-not-all_zero c =
 
 pub returns : goal.returns
 returns c =
-    let at_head : (let s = c.args in
-    let h = c.head_at-head.result in
-    front (part s.at (s.end - s.at) s.bytes.now)
-    ≡ front_of h.tag h.kind h.length (part (s.at + item_head) (s.end - (s.at + item_head)) s.bytes.now)) = let s = c.args in
-    let p = c.requires in
-    front_run s.bytes.now s.at s.end p.0 p.1 (omega arith) c.head_at-head.result c.head_at-head.ensures in
-    let valued : is_value c.head_at-head.result.kind c.head_at-head.result.length ≡ true = sym c.is_value.ensures ∙ c.if-not-is_value.false in
-    let padding : (let s = c.args in
-    let h = c.head_at-head.result in
-    c.all_zero.result ≡ all_zero (part (s.at + item_head + h.length) (to_eight h.length - h.length) s.bytes.now)) = let s = c.args in
-    c.all_zero.ensures ∙ ap all_zero (lent_padding (s.at + item_head) c.head_at-head.result.length s.bytes.now) in
     let s = c.args in
     let p = c.requires in
+    let at_head = front_run s.bytes.now s.at s.end p.0 p.1 (omega arith) c.head_at-head.result c.head_at-head.ensures in
+    let valued = sym c.is_value.ensures ∙ c.if-not-is_value.false in
+    let padding = c.all_zero.ensures ∙ ap all_zero (lent_padding (s.at + item_head) c.head_at-head.result.length s.bytes.now) in
     let h = c.head_at-head.result in
     let l : s.at + item_head ≤ s.end = omega arith in
     let yes = sym padding ∙ c.if-not-all_zero.false in
