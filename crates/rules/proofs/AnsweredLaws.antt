@@ -1,8 +1,9 @@
 -- What a frame that passes is answered: one of three, and no refusal.
 -- Assumes nothing.
+use Rattle.std.specs.Prelude.{Ok, Err}
 use mathlib.Core.Path.{◌≡◌, refl}
-use Rattle.rules.specs.declared.Answer.{Answer}
-use Rattle.rules.specs.declared.Answer.TheVariants.{Done, LockStates, Discovery, Refused}
+use Rattle.rules.specs.Answer.{Answer}
+use Rattle.rules.specs.declared.Granted.TheVariants.{Done, LockStates, Discovery}
 use Rattle.rules.specs.Locks.{shown}
 use Rattle.rules.specs.View.{View}
 use Rattle.rules.specs.Frames.{Frame, manage, release, load, load_wrapped, replace, clear_one, clear_all, io}
@@ -11,10 +12,10 @@ use Rattle.rules.specs.Order as order
 use Rattle.rules.specs.Order.{frame_rule}
 
 abbrev pub Given : View → Frame → Answer → Type 0
-Given v f Done = Unit {0}
-Given v f (LockStates dword) = dword ≡ shown v.locks
-Given v f Discovery = f ≡ discovery
-Given v f (Refused r) = ⊥
+Given v f (Ok Done) = Unit {0}
+Given v f (Ok (LockStates dword)) = dword ≡ shown v.locks
+Given v f (Ok Discovery) = f ≡ discovery
+Given v f (Err r) = ⊥
 
 pub given : (v : View) (f : Frame) → Given v f (frame_rule v f).answer
 unfolding frame_rule order.manage order.release order.load order.load_wrapped order.replace order.clear_one order.clear_all order.command order.set_features

@@ -1,10 +1,9 @@
 -- The rows of Edges are right: the checker computes them as it does the bench table.
 -- Assumes nothing.
 use mathlib.Core.Path.{refl, ◌∙◌}
-use Rattle.std.specs.Prelude.{◌≡◌, true}
+use Rattle.std.specs.Prelude.{◌≡◌, true, Err}
 use Rattle.cells.specs.Cells.{part, write, zeros, copies, cell, put, fill}
 use Rattle.cells.specs.Predicates.{same, all_zero, some_from, some_cell}
-use Rattle.rules.specs.declared.Answer.TheVariants.{Refused}
 use Rattle.rules.specs.Answers.{07·0F, fault_of, digits_of, answer_line}
 use Rattle.rules.specs.Fields.{little}
 use Rattle.rules.specs.FrameLine.{first_bad, decoded, line_checks}
@@ -38,7 +37,7 @@ unfolding part write zeros copies cell put fill same all_zero some_from some_cel
     fresh_registers reach near looking near_rule near_step codes right_on all_right_on orders
 orders_are = all_right_on_lem orders ∙ refl
 
-short_session_is : (session (fresh program_kek) session_text (zeros 77)).result ≡ Refused 07·0F
+short_session_is : (session (fresh program_kek) session_text (zeros 77)).result ≡ Err 07·0F
 unfolding session no_session lines_of room_for_all room_for codes zeros copies same
 short_session_is = refl
 

@@ -1,6 +1,7 @@
 -- The expected answer looks at no more of a view than `SameView` compares; and of an I/O command's room less still: its count, which
 -- slots are empty, KeyUIDs and marks.
 -- Assumes nothing.
+use Rattle.std.specs.Prelude.{Ok, Err}
 use mathlib.Core.Path.{◌≡◌, refl, sym, ap, ◌∙◌}
 use mathlib.Core.Bool.{Bool, true, false, not, true≢false}
 use mathlib.Core.List.{List, [], ◌∷◌}
@@ -13,8 +14,8 @@ use Rattle.cells.specs.Predicates.{same}
 use Rattle.rules.specs.declared.Namespace.{Namespace}
 use Rattle.rules.specs.declared.Tag.{Tag}
 use Rattle.rules.specs.declared.Lock.TheVariants.{WriteUnlocked}
-use Rattle.rules.specs.declared.Answer.{Answer}
-use Rattle.rules.specs.declared.Answer.TheVariants.{Refused, LockStates}
+use Rattle.rules.specs.Answer.{Answer}
+use Rattle.rules.specs.declared.Granted.TheVariants.{LockStates}
 use Rattle.rules.specs.declared.Command.{Command}
 use Rattle.rules.specs.Numbers.{namespaces, blocks_each, pool_slots, tags_most, slot_places}
 use Rattle.rules.specs.Checks.{Check, ◌when◌, judged, only_if}
@@ -187,7 +188,7 @@ module _ (v w : View) (few : (ns : Namespace) → IsNamespace ns → v.tags ns �
   answer_same (clear_all ns) = refl
   answer_same (io c) = refl
   answer_same (set_features d) = refl
-  answer_same get_features = ap (λ l. LockStates (shown l)) e.locks
+  answer_same get_features = ap (λ l. Ok (LockStates (shown l))) e.locks
   answer_same (boot_write p) = refl
   answer_same (reset level) = refl
   answer_same discovery = refl
@@ -197,19 +198,19 @@ module _ (v w : View) (few : (ns : Namespace) → IsNamespace ns → v.tags ns �
 -- A line
 
 abbrev pub frame_answer : View → Frame → Answer
-frame_answer v f = judged (frame_rule v f).checks Refused (frame_rule v f).answer
+frame_answer v f = judged (frame_rule v f).checks Err (frame_rule v f).answer
 
 -- the line's own checks, then the frame's
-pub expected_frame : (v : View) (line : List ℕ) → expected v line ≡ judged (reading_checks line) Refused (frame_answer v (frame_of line))
+pub expected_frame : (v : View) (line : List ℕ) → expected v line ≡ judged (reading_checks line) Err (frame_answer v (frame_of line))
 unfolding expected line_rule
-expected_frame v line = judged_append (reading_checks line) (frame_rule v (frame_of line)).checks Refused (frame_rule v (frame_of line)).answer
+expected_frame v line = judged_append (reading_checks line) (frame_rule v (frame_of line)).checks Err (frame_rule v (frame_of line)).answer
 
 pub same_expected : (v w : View) → ((ns : Namespace) → IsNamespace ns → v.tags ns ≤ tags_most) → SameView v w → (line : List ℕ)
     → expected v line ≡ expected w line
 same_expected v w few e line =
     let f = frame_of line in
     expected_frame v line
-    ∙ ap (judged (reading_checks line) Refused)
-    (alike_judged (frame_rule v f).checks (frame_rule w f).checks Refused (frame_rule v f).answer (checks_alike v w few e f)
-    ∙ ap (judged (frame_rule w f).checks Refused) (answer_same v w few e f))
+    ∙ ap (judged (reading_checks line) Err)
+    (alike_judged (frame_rule v f).checks (frame_rule w f).checks Err (frame_rule v f).answer (checks_alike v w few e f)
+    ∙ ap (judged (frame_rule w f).checks Err) (answer_same v w few e f))
     ∙ sym (expected_frame w line)

@@ -1,5 +1,6 @@
 -- The key-encryption key lies behind every slot, and what a line changes of the cache is slots: it stays.
 -- Assumes nothing.
+use Rattle.std.specs.Prelude.{Ok, Err}
 use mathlib.Core.Path.{◌≡◌, refl, ap, ◌∙◌}
 use mathlib.Core.Bool.{Bool, true, false, ◌&&◌}
 use mathlib.Core.List.{List, [], ◌∷◌}
@@ -26,7 +27,7 @@ use Rattle.rules.specs.Order as order
 use Rattle.rules.specs.Order.{frame_rule, frame_of, step, is_write, is_power_cycle, power_cycled}
 use Rattle.rules.specs.Sessions.{end_state, lines_of, Session, no_session, all_answered, session}
 use Rattle.rules.specs.declared.Refusal.{Refusal}
-use Rattle.rules.specs.declared.Answer.TheVariants.{Done, Refused}
+use Rattle.rules.specs.declared.Granted.TheVariants.{Done}
 use Rattle.rules.specs.Checks.{AllPass, FirstToFail}
 use Rattle.rules.specs.Promises.{Sessions, session_checks, SessionKeepsKek}
 use Rattle.rules.proofs.ChecksLaws.{by_verdict}
@@ -171,4 +172,4 @@ session_keeps_kek s text out o l =
     ⊎_elim
     (λ f. refused_keeps s text out o l f.0 f.1.0)
     (λ p. ran_keeps s text out o l p.0)
-    (by_verdict (session_checks s text out) Refused Done)
+    (by_verdict (session_checks s text out) Err (Ok Done))

@@ -1,10 +1,9 @@
 -- Rows beside the paper's (house): the first values past the last, and the order
 -- of checks, each computed from a fresh drive as the bench table is.
 -- Assumes nothing.
-use Rattle.std.specs.Prelude.{◌≡◌, true, List, [], ◌∷◌, ℕ}
+use Rattle.std.specs.Prelude.{◌≡◌, true, List, [], ◌∷◌, ℕ, Err}
 use Prim.Native.String.{String}
 use Rattle.cells.specs.Cells.{zeros}
-use Rattle.rules.specs.declared.Answer.TheVariants.{Refused}
 use Rattle.rules.specs.Answers.{07·0F}
 use Rattle.rules.specs.Start.{fresh, program_kek}
 use Rattle.rules.specs.Sessions.{session}
@@ -83,4 +82,4 @@ pub record EdgesRight : Type 0 where
   pub edges_right : all_right edges ≡ true
   pub orders_right : all_right orders ≡ true
   -- with a byte less it is refused
-  pub short_session : (session (fresh program_kek) session_text (zeros 77)).result ≡ Refused 07·0F
+  pub short_session : (session (fresh program_kek) session_text (zeros 77)).result ≡ Err 07·0F

@@ -2,10 +2,9 @@
 -- of a command that the drive ignores are set: each field is at its place, in its
 -- order, and as wide as the paper says.
 -- Assumes nothing.
-use Rattle.std.specs.Prelude.{◌≡◌, List, [], ◌∷◌, ℕ, zero, suc, replicate}
+use Rattle.std.specs.Prelude.{◌≡◌, List, [], ◌∷◌, ℕ, zero, suc, replicate, Err}
 use Prim.Native.String.{String}
 use Rattle.rules.specs.Checks.{passed, refused, first_refusal}
-use Rattle.rules.specs.declared.Answer.TheVariants.{Refused}
 use Rattle.rules.specs.Answers.{07·02, 07·0D}
 use Rattle.rules.specs.State.{namespace, key_tag}
 use Rattle.rules.specs.Slots.{place_of}
@@ -83,4 +82,4 @@ pub record ReadingsRight : Type 0 where
   pub last_block : block_of (namespace 4) 255 ≡ 1023
   -- the program's key-encryption key; and a start with nothing right
   pub program_key : program_kek ≡ from 0x00 32
-  pub all_wrong : (start program_kek [] []).answer ≡ Refused 07·0D
+  pub all_wrong : (start program_kek [] []).answer ≡ Err 07·0D
