@@ -1,22 +1,7 @@
 // One call of the library, and what its line of text says after the label.
-use crate::text::least;
 use crate::{Cache, MOST, Marks, ROOM, Setting, made, show};
 use drive::{Answered, Reply};
 use rules::{CACHE_SIZE, PROGRAM_KEK, Registers, SLOTS_SIZE};
-
-fn same_registers(a: Registers, b: Registers) -> bool {
-    let x = show::registers(a);
-    let y = show::registers(b);
-    cells::equal(&x, &y)
-}
-
-fn same_cache(a: &Cache, b: &Cache) -> bool {
-    cells::equal(a, b)
-}
-
-fn same_marks(a: &Marks, b: &Marks) -> bool {
-    cells::equal(a, b)
-}
 
 fn lend_line(
     setting: Setting,
@@ -25,16 +10,15 @@ fn lend_line(
     frame: &[u8],
     out: &mut [u8],
 ) -> Reply {
-    let registers = setting.registers;
-    let k = least(setting.cache, keys.len());
-    let n = least(setting.store, marks.len());
-    let m = least(setting.room, out.len());
+    let k = setting.cache.min(keys.len());
+    let n = setting.store.min(marks.len());
+    let m = setting.room.min(out.len());
     drive::answer_line(
-        registers,
-        &mut keys[0..k],
-        &mut marks[0..n],
+        setting.registers,
+        &mut keys[..k],
+        &mut marks[..n],
         frame,
-        &mut out[0..m],
+        &mut out[..m],
     )
 }
 
@@ -50,39 +34,28 @@ pub(crate) fn line(
     let kept_marks = *marks;
     let mut out = [b'.'; ROOM];
     let left = lend_line(setting, keys, marks, frame, &mut out);
-    let answer = left.answer;
-    let after = left.registers;
-    let before = setting.registers;
-    show::answer(rt, answer, &out, left.bytes);
-    let small = same_registers(after, before);
-    let cache = same_cache(keys, &kept_keys);
-    show::same_or_changed(rt, b" state", small && cache);
-    let store = same_marks(marks, &kept_marks);
-    show::same_or_changed(rt, b" marks", store);
+    show::answer(rt, left.answer, &out, left.bytes);
+    let state = left.registers == setting.registers && *keys == kept_keys;
+    show::same_or_changed(rt, "state", state);
+    show::same_or_changed(rt, "marks", *marks == kept_marks);
     show::rest(rt, &out, left.bytes);
-    after
+    left.registers
 }
 
 fn lend_start(keys: &mut [u8], marks: &mut [u8], store: usize, cache: usize) -> Answered {
-    let k = least(cache, keys.len());
-    let n = least(store, marks.len());
-    let kek = PROGRAM_KEK;
-    drive::start(&kek, &mut keys[0..k], &mut marks[0..n])
+    let k = cache.min(keys.len());
+    let n = store.min(marks.len());
+    drive::start(&PROGRAM_KEK, &mut keys[..k], &mut marks[..n])
 }
 
 fn all_zero(marks: &[u8], store: usize) -> bool {
-    let n = least(store, marks.len());
-    cells::all_zero(&marks[0..n])
+    let n = store.min(marks.len());
+    cells::all_zero(&marks[..n])
 }
 
 // No keys, and the key-encryption key of a start behind them.
-fn fresh_cache(keys: &[u8]) -> bool {
-    let kek = PROGRAM_KEK;
-    let k = least(SLOTS_SIZE, keys.len());
-    if !cells::all_zero(&keys[0..k]) {
-        return false;
-    }
-    cells::equal(&keys[k..], &kek)
+fn fresh_cache(keys: &Cache) -> bool {
+    cells::all_zero(&keys[..SLOTS_SIZE]) && cells::equal(&keys[SLOTS_SIZE..], &PROGRAM_KEK)
 }
 
 // A call of start: number, whether the state is fresh, whether the store stayed, and whether the lent part is zeros.
@@ -97,16 +70,11 @@ pub(crate) fn start(
     *marks = [7u8; MOST];
     let kept = *marks;
     let left = lend_start(keys, marks, store, cache);
-    let answer = left.answer;
-    let after = left.registers;
-    show::number(rt, answer);
-    let small = same_registers(after, made::fresh());
-    let empty = fresh_cache(keys);
-    show::where_so(rt, b" fresh", small && empty);
-    let same = same_marks(marks, &kept);
-    show::same_or_changed(rt, b" marks", same);
-    let zero = all_zero(marks, store);
-    show::where_so(rt, b", zeros", zero);
+    show::number(rt, left.answer);
+    let fresh = left.registers == made::fresh() && fresh_cache(keys);
+    show::where_so(rt, " fresh", fresh);
+    show::same_or_changed(rt, "marks", *marks == kept);
+    show::where_so(rt, ", zeros", all_zero(marks, store));
     show::text(rt, b"\n");
-    after
+    left.registers
 }

@@ -1,5 +1,5 @@
 // Drives made for one call, sound or not.
-use crate::text::{NUMBERS, less};
+use crate::text::NUMBERS;
 use crate::{Cache, MOST, Marks, ROOM, Setting};
 use rules::{
     BootLocks, CACHE_SIZE, Lock, NAMESPACES, Registers, SLOT_PLACES, SLOT_WIDTH, STORE_SIZE,
@@ -20,10 +20,7 @@ pub(crate) fn fresh() -> Registers {
 
 // The number, or the greatest byte.
 fn byte(n: usize) -> u8 {
-    if n > 255 {
-        return 255;
-    }
-    n as u8
+    u8::try_from(n).unwrap_or(u8::MAX)
 }
 
 // Sets two bytes of a slot: another one, then the first.
@@ -57,7 +54,7 @@ pub(crate) fn setting(keys: &mut Cache, marks: &mut Marks, n: [usize; NUMBERS]) 
     let registers = counted([byte(n[2]), byte(n[3]), byte(n[4]), byte(n[5])]);
     Setting {
         registers,
-        cache: less(CACHE_SIZE, n[9]),
+        cache: CACHE_SIZE.saturating_sub(n[9]),
         store: n[0],
         room: n[1],
     }

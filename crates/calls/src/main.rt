@@ -49,10 +49,10 @@ fn one_call(
     numbers: &[u8],
 ) -> Registers {
     let n = text::numbers(numbers);
-    if cells::equal(word, b"start") {
-        return call::start(rt, keys, marks, n[0], text::less(CACHE_SIZE, n[1]));
+    if word == b"start" {
+        return call::start(rt, keys, marks, n[0], CACHE_SIZE.saturating_sub(n[1]));
     }
-    let setting = if numbers.len() == 0 {
+    let setting = if numbers.is_empty() {
         made::usual(registers)
     } else {
         made::setting(keys, marks, n)
@@ -68,29 +68,20 @@ fn one_line(
     marks: &mut Marks,
     line: &[u8],
 ) -> Registers {
-    let label = text::find(line, 0, b'|');
-    let word = text::least(label + 1, line.len());
-    let end = text::find(line, word, b'|');
-    let numbers = text::least(end + 1, line.len());
-    show::text(rt, &line[0..label]);
+    let mut parts = line.splitn(3, |b| *b == b'|');
+    let label = parts.next().unwrap_or(b"");
+    let word = parts.next().unwrap_or(b"");
+    let numbers = parts.next().unwrap_or(b"");
+    show::text(rt, label);
     show::text(rt, b": ");
-    one_call(
-        rt,
-        registers,
-        keys,
-        marks,
-        &line[word..end],
-        &line[numbers..],
-    )
+    one_call(rt, registers, keys, marks, word, numbers)
 }
 
 fn all_lines(rt: &impl Print, keys: &mut Cache, marks: &mut Marks, input: &[u8]) {
     let mut registers = made::fresh();
-    let mut at = 0;
-    while at < input.len() {
-        let end = text::find(input, at, b'\n');
-        registers = one_line(rt, registers, keys, marks, &input[at..end]);
-        at = end + 1;
+    for line in input.split_inclusive(|b| *b == b'\n') {
+        let line = line.strip_suffix(b"\n").unwrap_or(line);
+        registers = one_line(rt, registers, keys, marks, line);
     }
 }
 

@@ -1,101 +1,48 @@
-// What a call left, as text.
+// What a call left, as text. A write that fails is told by nobody: whoever runs this compares what was printed.
 use crate::ROOM;
-use rules::{Answer, NAMESPACES, Registers};
+use rules::Answer;
 
-// A write that fails is told by nobody: whoever runs this compares what was printed.
 pub(crate) fn text(rt: &impl Print, s: &[u8]) {
     let _ = rt.write_all(s);
-}
-
-const BASE: u16 = 16;
-
-// The last digit of a number's hexadecimal form.
-fn digit(n: u16) -> u8 {
-    let all = b"0123456789ABCDEF";
-    let i = (n % BASE) as usize;
-    all[i]
 }
 
 // The answer's number, as four digits.
 pub(crate) fn number(rt: &impl Print, answer: Answer) {
     let n = digits::number(answer);
-    let four = [
-        digit(n / BASE / BASE / BASE),
-        digit(n / BASE / BASE),
-        digit(n / BASE),
-        digit(n),
-    ];
-    text(rt, &four);
+    let _ = print!(rt; "{n:04X}");
 }
 
-// An answer's line, with a stroke for the line feed at the end.
-fn written(rt: &impl Print, out: &[u8], last: usize) {
-    if last >= out.len() {
-        return;
-    }
-    text(rt, b" ");
-    text(rt, &out[0..last]);
-    if out[last] == b'\n' {
-        text(rt, b"/");
-    }
-}
-
-// The answer's number, how many bytes were written, and which.
+// The answer's number, how many bytes were written, and which, with a stroke for the line feed at the end.
 pub(crate) fn answer(rt: &impl Print, answer: Answer, out: &[u8], bytes: usize) {
     number(rt, answer);
-    text(rt, b" ");
-    let _ = print!(rt; "{bytes}");
-    if bytes == 0 {
-        return;
+    let _ = print!(rt; " {bytes}");
+    match out.get(..bytes) {
+        Some([line @ .., last]) => {
+            text(rt, b" ");
+            text(rt, line);
+            where_so(rt, "/", *last == b'\n');
+        }
+        _ => {}
     }
-    written(rt, out, bytes - 1);
 }
 
-pub(crate) fn where_so(rt: &impl Print, what: &[u8], so: bool) {
+pub(crate) fn where_so(rt: &impl Print, what: &str, so: bool) {
     if so {
-        text(rt, what);
+        let _ = print!(rt; "{what}");
     }
 }
 
-pub(crate) fn same_or_changed(rt: &impl Print, what: &[u8], same: bool) {
-    text(rt, what);
-    if same {
-        text(rt, b" same");
-        return;
-    }
-    text(rt, b" changed");
-}
-
-fn same_from(a: &[u8], b: &[u8], from: usize) -> bool {
-    if from > a.len() {
-        return false;
-    }
-    if from > b.len() {
-        return false;
-    }
-    cells::equal(&a[from..], &b[from..])
+pub(crate) fn same_or_changed(rt: &impl Print, what: &str, same: bool) {
+    let how = if same { "same" } else { "changed" };
+    let _ = print!(rt; " {what} {how}");
 }
 
 // Whether the output past the bytes written still has the dots that it had.
-pub(crate) fn rest(rt: &impl Print, out: &[u8], bytes: usize) {
-    let dots = [b'.'; ROOM];
-    let same = same_from(out, &dots, bytes);
-    same_or_changed(rt, b" rest", same);
+pub(crate) fn rest(rt: &impl Print, out: &[u8; ROOM], bytes: usize) {
+    let same = match out.get(bytes..) {
+        Some(rest) => rest.iter().all(|b| *b == b'.'),
+        None => false,
+    };
+    same_or_changed(rt, "rest", same);
     text(rt, b"\n");
-}
-
-// The small state as bytes: the counts, then the locks.
-pub(crate) fn registers(registers: Registers) -> [u8; NAMESPACES + 2] {
-    let counts = registers.counts;
-    let locks = registers.locks;
-    let zero = locks.partition0;
-    let one = locks.partition1;
-    [
-        counts[0],
-        counts[1],
-        counts[2],
-        counts[3],
-        locks::lock_value(zero),
-        locks::lock_value(one),
-    ]
 }

@@ -49,11 +49,11 @@ line_acts s line =
 -- ------------------------------------------------------------------------
 -- The place, or the refusal
 
-verdict_of : (v : Verdict Refusal) (p : ℕ) (r : Refusal) → found.Refused r ≡ settle v found.Refused (found.Place p) → v ≡ refused r
+verdict_of : {A : Type 0} (v : Verdict Refusal) (p : A) (r : Refusal) → Err r ≡ settle v Err (Ok p) → v ≡ refused r
 verdict_of passed p r e = absurd (let z : ◌≡◌ {A = ℕ} 0 1 = cc in omega arith)
 verdict_of (refused q) p r e = let z : q ≡ r = cc in ap refused z
 
-place_of_lem : (v : Verdict Refusal) (p q : ℕ) → found.Place q ≡ settle v found.Refused (found.Place p) → (v ≡ passed) × (q ≡ p)
+place_of_lem : {A : Type 0} (v : Verdict Refusal) (p q : A) → Ok q ≡ settle v Err (Ok p) → (v ≡ passed) × (q ≡ p)
 place_of_lem passed p q e = (refl, cc)
 place_of_lem (refused r) p q e = absurd (let z : ◌≡◌ {A = ℕ} 0 1 = cc in omega arith)
 
@@ -62,24 +62,24 @@ module _ (d : Registers) (keys marks : List ℕ) (ns : Namespace) (tag : Tag) wh
   s = state d keys marks
 
   -- the shared checks' refusal stands
-  pub refused_by : (r : Refusal) (o : Outcome) → found.Refused r ≡ located (state d [] []) ns tag
+  pub refused_by : (r : Refusal) (o : Outcome) → Err r ≡ located (state d [] []) ns tag
       → judged (slot_checks (view_of s) ns tag) (refuse s) o ≡ refuse s r
   unfolding located
   refused_by r o e = ap (λ v. settle v (refuse s) o) (verdict_of (first_refusal (slot_checks (view_of s) ns tag)) (place_of ns tag) r e)
 
   -- or they pass, and the place is the slot's
-  pub found_by : (q : ℕ) (f : ℕ → Outcome) → found.Place q ≡ located (state d [] []) ns tag
+  pub found_by : (q : ℕ) (f : ℕ → Outcome) → Ok q ≡ located (state d [] []) ns tag
       → judged (slot_checks (view_of s) ns tag) (refuse s) (f (place_of ns tag)) ≡ f q
   unfolding located
   found_by q f e =
       let p = place_of_lem (first_refusal (slot_checks (view_of s) ns tag)) (place_of ns tag) q e in
       ap (λ v. settle v (refuse s) (f (place_of ns tag))) p.0 ∙ ap f (sym p.1)
 
-  pub found_passes : (q : ℕ) → found.Place q ≡ located (state d [] []) ns tag → AllPass (slot_checks (view_of (state d [] [])) ns tag)
+  pub found_passes : (q : ℕ) → Ok q ≡ located (state d [] []) ns tag → AllPass (slot_checks (view_of (state d [] [])) ns tag)
   unfolding located
   found_passes q e = then_pass (slot_checks (view_of s) ns tag) (place_of_lem (first_refusal (slot_checks (view_of s) ns tag)) (place_of ns tag) q e).0
 
-  pub found_small : (q : ℕ) → found.Place q ≡ located (state d [] []) ns tag → unsound (state d keys []) ≡ false → q < slot_places
+  pub found_small : (q : ℕ) → Ok q ≡ located (state d [] []) ns tag → unsound (state d keys []) ≡ false → q < slot_places
   unfolding located
   found_small q e sound =
       let p = place_of_lem (first_refusal (slot_checks (view_of s) ns tag)) (place_of ns tag) q e in
@@ -96,10 +96,10 @@ module _ (d : Registers) (keys marks : List ℕ) (ns : Namespace) (tag : Tag) wh
         ∙ ap (judged (slot_checks (view_of s) ns tag) (refuse s))
         (judged_append (07·09 when loaded (cell slot_width (place_of ns tag) keys) ∷ []) (07·0C when other_key (view_of s).slots x ∷ []) (refuse s) _))
 
-    pub load_refused : (r : Refusal) → found.Refused r ≡ located (state d [] []) ns tag → refuse s r ≡ obey s (load (view_of s) ns tag x)
+    pub load_refused : (r : Refusal) → Err r ≡ located (state d [] []) ns tag → refuse s r ≡ obey s (load (view_of s) ns tag x)
     load_refused r e = sym (load_by ∙ refused_by r _ e)
 
-    pub load_found : (q : ℕ) → found.Place q ≡ located (state d [] []) ns tag → load_at s q x ≡ obey s (load (view_of s) ns tag x)
+    pub load_found : (q : ℕ) → Ok q ≡ located (state d [] []) ns tag → load_at s q x ≡ obey s (load (view_of s) ns tag x)
     load_found q e = sym (load_by ∙ found_by q (λ p. load_at s p x) e)
 
     module _ (old : List ℕ) where
@@ -113,20 +113,20 @@ module _ (d : Registers) (keys marks : List ℕ) (ns : Namespace) (tag : Tag) wh
           (07·0A when empty (cell slot_width (place_of ns tag) keys) ∷ 07·0B when not (same (uid_of (cell slot_width (place_of ns tag) keys)) old) ∷ [])
           (07·0C when other_key (view_of s).slots x ∷ []) (refuse s) _))
 
-      pub replace_refused : (r : Refusal) → found.Refused r ≡ located (state d [] []) ns tag → refuse s r ≡ obey s (replace (view_of s) ns tag old x)
+      pub replace_refused : (r : Refusal) → Err r ≡ located (state d [] []) ns tag → refuse s r ≡ obey s (replace (view_of s) ns tag old x)
       replace_refused r e = sym (replace_by ∙ refused_by r _ e)
 
-      pub replace_found : (q : ℕ) → found.Place q ≡ located (state d [] []) ns tag → replace_at s q old x ≡ obey s (replace (view_of s) ns tag old x)
+      pub replace_found : (q : ℕ) → Ok q ≡ located (state d [] []) ns tag → replace_at s q old x ≡ obey s (replace (view_of s) ns tag old x)
       replace_found q e = sym (replace_by ∙ found_by q (λ p. replace_at s p old x) e)
 
   clear_by : obey s (clear_one (view_of s) ns tag) ≡ judged (slot_checks (view_of s) ns tag) (refuse s) (clear_at s (place_of ns tag))
   unfolding clear_one clear_at empty_slot
   clear_by = rw (is_empty_lem (slot s ns tag)) (judged_append (slot_checks (view_of s) ns tag) _ (refuse s) _)
 
-  pub clear_refused : (r : Refusal) → found.Refused r ≡ located (state d [] []) ns tag → refuse s r ≡ obey s (clear_one (view_of s) ns tag)
+  pub clear_refused : (r : Refusal) → Err r ≡ located (state d [] []) ns tag → refuse s r ≡ obey s (clear_one (view_of s) ns tag)
   clear_refused r e = sym (clear_by ∙ refused_by r _ e)
 
-  pub clear_found : (q : ℕ) → found.Place q ≡ located (state d [] []) ns tag → clear_at s q ≡ obey s (clear_one (view_of s) ns tag)
+  pub clear_found : (q : ℕ) → Ok q ≡ located (state d [] []) ns tag → clear_at s q ≡ obey s (clear_one (view_of s) ns tag)
   clear_found q e = sym (clear_by ∙ found_by q (λ p. clear_at s p) e)
 
 -- of a loaded slot, whether it holds a KeyUID is whether the KeyUID is the same

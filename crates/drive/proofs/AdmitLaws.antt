@@ -10,14 +10,14 @@ use Rattle.rules.specs.Checks.{Verdict, passed, refused, first_refusal, settle, 
 use Rattle.rules.specs.Call.{call_checks}
 use Rattle.rules.proofs.ChecksLaws.{then_pass}
 use Rattle.rules.proofs.SoundLaws.{sound_cache}
-use Rattle.drive.specs.declared.Admission.TheVariants.{Open, Refused}
+use Rattle.drive.specs.declared.Admission.TheVariants.{(Ok tt), Refused}
 use Rattle.drive.specs.Acting.{state, Ready, admitted}
 
-refused_by : (v : Verdict Refusal) (r : Refusal) → Refused r ≡ settle v Refused Open → v ≡ refused r
+refused_by : (v : Verdict Refusal) (r : Refusal) → Err r ≡ settle v Err (Ok tt) → v ≡ refused r
 refused_by passed r e = absurd (let z : ◌≡◌ {A = ℕ} 0 1 = cc in omega arith)
 refused_by (refused q) r e = let z : q ≡ r = cc in ap refused z
 
-opened_by : (v : Verdict Refusal) → Open ≡ settle v Refused Open → v ≡ passed
+opened_by : (v : Verdict Refusal) → (Ok tt) ≡ settle v Err (Ok tt) → v ≡ passed
 opened_by passed e = cc
 opened_by (refused q) e = absurd (let z : ◌≡◌ {A = ℕ} 0 1 = cc in omega arith)
 
@@ -25,17 +25,17 @@ module _ (d : Registers) (keys marks : List ℕ) (room : ℕ) (out : List ℕ) (
   verdict : Verdict Refusal
   verdict = first_refusal (call_checks (state d keys marks) room out)
 
-  admitted_is : admitted short (state d keys marks) ≡ settle verdict Refused Open
+  admitted_is : admitted short (state d keys marks) ≡ settle verdict Err (Ok tt)
   unfolding admitted verdict
   admitted_is = rw is
 
   -- the refusal stands, whatever else the call would do
-  pub shut : {B : Type 0} (r : Refusal) (f : Refusal → B) (o : B) → Refused r ≡ admitted short (state d keys marks)
+  pub shut : {B : Type 0} (r : Refusal) (f : Refusal → B) (o : B) → Err r ≡ admitted short (state d keys marks)
       → f r ≡ judged (call_checks (state d keys marks) room out) f o
   unfolding verdict
   shut r f o e = ap (λ v. settle v f o) (sym (refused_by verdict r (e ∙ admitted_is)))
 
-  module _ (e : Open ≡ admitted short (state d keys marks)) where
+  module _ (e : (Ok tt) ≡ admitted short (state d keys marks)) where
     opened : verdict ≡ passed
     opened = opened_by verdict (e ∙ admitted_is)
 

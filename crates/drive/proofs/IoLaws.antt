@@ -13,7 +13,8 @@ use Rattle.cells.proofs.PredicatesLaws.{true_or_false}
 use Rattle.rules.specs.declared.Command.{Command}
 use Rattle.rules.specs.declared.Registers.{Registers}
 use Rattle.rules.specs.declared.Refusal.{Refusal}
-use Rattle.rules.specs.declared.Answer.TheVariants.{Done}
+use Rattle.std.specs.Prelude.{Option, Some, None, Result, Ok, Err}
+use Rattle.rules.specs.Answer.{Done}
 use Rattle.rules.specs.Numbers.{blocks_each, uid_most, slot_width, slot_places, mark_width, mark_places, store_size}
 use Rattle.rules.specs.View.{view_of, managed, tag_above}
 use Rattle.rules.specs.Checks.{Check, ◌when◌, Verdict, passed, refused, first_refusal, settle, judged, only_if, AllPass}
@@ -23,7 +24,7 @@ use Rattle.rules.specs.Slots.{place_of, slot, padded, empty, uid_of, held, IsSlo
 use Rattle.rules.specs.Marks.{block_of, kept_identity, identity_of}
 use Rattle.rules.specs.Sound.{slot_unsound, unsound}
 use Rattle.rules.specs.Effects.{mark_covered, only_when}
-use Rattle.rules.specs.Order.{command, is_write, is_reading, command_checks, key_checks, mark_check, wrong_key}
+use Rattle.rules.specs.Order.{command, out_of_range, is_write, is_reading, command_checks, key_checks, mark_check, wrong_key}
 use Rattle.rules.proofs.ChecksLaws.{judged_append, judged_cases}
 use Rattle.rules.proofs.ViewLaws.{is_empty_lem, wrong_key_lem}
 use Rattle.rules.proofs.StateLaws.{is_namespace_lem}
@@ -34,26 +35,23 @@ use Rattle.slots.specs.Cache.{head_size, head_bytes}
 use Rattle.slots.proofs.HeadLaws.{sound_head}
 use Rattle.marks.specs.Store.{in_store, some_differs, marked}
 use Rattle.drive.specs.declared.Access.{Access}
-use Rattle.drive.specs.declared.Access.TheVariants.{Write, Reads, Neither}
-use Rattle.drive.specs.declared.Found.TheVariants as found
-use Rattle.drive.specs.declared.Reach.{Reach}
-use Rattle.drive.specs.declared.Reach.TheVariants.{Place, Unmanaged, Refused}
+use Rattle.drive.specs.declared.Access.TheVariants.{Write, Read}
 use Rattle.drive.specs.Acting.{state, Ready, access_of, placed as placedBy, keyed, reached, Known}
 
 -- ------------------------------------------------------------------------
 -- What an opcode opens
 
-abbrev pub Opens : Bool → Bool → Access → Type 0
-Opens w r Write = w ≡ true
-Opens w r Reads = r ≡ true
-Opens w r Neither = w || r ≡ false
+abbrev pub Opens : Bool → Bool → Result Access Refusal → Type 0
+Opens w r (Ok Write) = w ≡ true
+Opens w r (Ok Read) = r ≡ true
+Opens w r (Err why) = (why ≡ 00·01) × (w || r ≡ false)
 
-opened : (w r : Bool) → Opens w r (cond w Write (cond r Reads Neither))
+opened : (w r : Bool) → Opens w r (cond w (Ok Write) (cond r (Ok Read) (Err 00·01)))
 opened true r = refl
 opened false true = refl
-opened false false = refl
+opened false false = (refl, refl)
 
-pub opens : (c : Command) (a : Access) → a ≡ access_of c.opcode → Opens (is_write c) (is_reading c) a
+pub opens : (c : Command) (a : Result Access Refusal) → a ≡ access_of c.opcode → Opens (is_write c) (is_reading c) a
 unfolding access_of
 opens c a e = rw e (opened (is_write c) (is_reading c))
 
@@ -94,11 +92,11 @@ settle_map : {A B C : Type 0} (g : B → C) (v : Verdict A) (f : A → B) (o : B
 settle_map g passed f o = refl
 settle_map g (refused a) f o = refl
 
-abbrev pub leads : State → Command → Reach → Outcome
-leads s c (Refused r) = refuse s r
-leads s c Unmanaged = record { answer = Done; state = s }
-leads s c (Place place) =
-    judged (only_if (is_reading c) (mark_check (view_of s) c)) (refuse s) (record { answer = Done; state = only_when (is_write c) (mark_covered s c) s })
+abbrev pub leads : State → Command → Result (Option ℕ) Refusal → Outcome
+leads s c (Err r) = refuse s r
+leads s c (Ok None) = record { answer = Ok Done; state = s }
+leads s c (Ok (Some place)) =
+    judged (only_if (is_reading c) (mark_check (view_of s) c)) (refuse s) (record { answer = Ok Done; state = only_when (is_write c) (mark_covered s c) s })
 
 module _ (s : State) (c : Command) where
   abbrev range_checks : List (Check Refusal)
@@ -111,30 +109,35 @@ module _ (s : State) (c : Command) where
   abbrev later : Bool → Outcome
   later m =
       judged (only_if m (key_checks (view_of s) c ++ only_if (is_reading c) (mark_check (view_of s) c))) (refuse s)
-      (record { answer = Done; state = only_when (m && is_write c) (mark_covered s c) s })
+      (record { answer = Ok Done; state = only_when (m && is_write c) (mark_covered s c) s })
 
-  abbrev goes : Bool → Reach
-  goes m = cond m (keyed s c) Unmanaged
+  abbrev goes : Bool → Result (Option ℕ) Refusal
+  goes m = judged (only_if m (key_checks (view_of s) c)) Err (Ok (cond m (Some (place_of c.ns c.tag)) None))
+
+  -- `reached`, the checks of the range before the key's
+  range_first : reached s c ≡ judged range_checks Err (goes (managed (view_of s) c.ns))
+  unfolding reached
+  range_first = judged_append range_checks (only_if (managed (view_of s) c.ns) (key_checks (view_of s) c)) Err _
 
   keyed_leads : (m : Bool) → later m ≡ leads s c (goes m)
-  unfolding keyed
   keyed_leads true =
       judged_append (key_checks (view_of s) c) (only_if (is_reading c) (mark_check (view_of s) c)) (refuse s) (record {
         answer =
-            Done;
+            (Ok Done);
         state = only_when (is_write c) (mark_covered s c) s;
       })
-      ∙ sym (settle_map (leads s c) (first_refusal (key_checks (view_of s) c)) Refused (Place (place_of c.ns c.tag)))
+      ∙ sym (settle_map (leads s c) (first_refusal (key_checks (view_of s) c)) Err (Ok (Some (place_of c.ns c.tag))))
   keyed_leads false = refl
 
   opened_leads : is_write c || is_reading c ≡ true → obey s (command (view_of s) c) ≡ leads s c (reached s c)
-  unfolding command reached
+  unfolding command
   opened_leads e =
       judged_append (command_checks c)
       (only_if (managed (view_of s) c.ns) (key_checks (view_of s) c ++ only_if (is_reading c) (mark_check (view_of s) c))) (refuse s) _
       ∙ ap (λ b. judged (00·01 when not b ∷ range_checks) (refuse s) (later (managed (view_of s) c.ns))) e
       ∙ ap (judged range_checks (refuse s)) (keyed_leads (managed (view_of s) c.ns))
-      ∙ sym (settle_map (leads s c) (first_refusal range_checks) Refused (goes (managed (view_of s) c.ns)))
+      ∙ sym (settle_map (leads s c) (first_refusal range_checks) Err (goes (managed (view_of s) c.ns)))
+      ∙ ap (leads s c) (sym range_first)
 
   -- and one with another opcode
   pub unknown_leads : is_write c || is_reading c ≡ false → obey s (command (view_of s) c) ≡ refuse s 00·01
@@ -144,17 +147,17 @@ module _ (s : State) (c : Command) where
 -- ------------------------------------------------------------------------
 -- The key checks, by the place that the tag leads to
 
-refused_place : (b : Bool) (p : ℕ) (r : Refusal) → found.Refused r ≡ judged (00·25 when b ∷ []) found.Refused (found.Place p)
+refused_place : (b : Bool) (p : ℕ) (r : Refusal) → Err r ≡ judged (00·25 when b ∷ []) Err (Ok p)
     → (b ≡ true) × (r ≡ 00·25)
 refused_place true p r e = (refl, cc)
 refused_place false p r e = absurd (let z : ◌≡◌ {A = ℕ} 0 1 = cc in omega arith)
 
-found_place : (b : Bool) (p q : ℕ) → found.Place q ≡ judged (00·25 when b ∷ []) found.Refused (found.Place p) → (b ≡ false) × (q ≡ p)
+found_place : (b : Bool) (p q : ℕ) → Ok q ≡ judged (00·25 when b ∷ []) Err (Ok p) → (b ≡ false) × (q ≡ p)
 found_place true p q e = absurd (let z : ◌≡◌ {A = ℕ} 0 1 = cc in omega arith)
 found_place false p q e = (refl, cc)
 
 module _ (s : State) (c : Command) where
-  pub wrong_type : (c.cetype ≡ 1 → ⊥) → Refused 00·02 ≡ keyed s c
+  pub wrong_type : (c.cetype ≡ 1 → ⊥) → Err 00·02 ≡ keyed s c
   unfolding keyed
   wrong_type h = rw (ne_eqb c.cetype 1 h)
 
@@ -165,41 +168,60 @@ module _ (s : State) (c : Command) where
     above_is : (b : Bool) → above ≡ b → tag_above (view_of s) c.ns c.tag ≡ b
     above_is b e = ap (λ k. leb k c.tag.0) (sym is) ∙ e
 
-    pub tag_refused : (r : Refusal) → found.Refused r ≡ placedBy n c.ns c.tag → Refused r ≡ keyed s c
+    pub tag_refused : (r : Refusal) → Err r ≡ placedBy n c.ns c.tag → Err r ≡ keyed s c
     unfolding keyed placedBy
     tag_refused r e =
         let p = refused_place above (place_of c.ns c.tag) r e in
         rw (eq-eqb c.cetype 1 one, above_is true p.0, p.1)
 
     -- of a sound drive it is a slot's
-    pub tag_inside : unsound s ≡ false → IsNamespace c.ns → (q : ℕ) → found.Place q ≡ placedBy n c.ns c.tag → q < slot_places
+    pub tag_inside : unsound s ≡ false → IsNamespace c.ns → (q : ℕ) → Ok q ≡ placedBy n c.ns c.tag → q < slot_places
     unfolding placedBy
     tag_inside sound is-ns q e =
         let p = found_place above (place_of c.ns c.tag) q e in
         rw p.1 (place_small c.ns c.tag (named_slot s sound c.ns c.tag is-ns (above_is false p.0)))
 
-    pub tag_found : (q : ℕ) → found.Place q ≡ placedBy n c.ns c.tag
-        → judged (00·25 when empty (cell slot_width q s.keys) ∷ []) Refused (Place q) ≡ keyed s c
+    pub tag_found : (q : ℕ) → Ok q ≡ placedBy n c.ns c.tag
+        → judged (00·25 when empty (cell slot_width q s.keys) ∷ []) Err (Ok q) ≡ keyed s c
     unfolding keyed placedBy
     tag_found q e =
         let p = found_place above (place_of c.ns c.tag) q e in
         rw (eq-eqb c.cetype 1 one, above_is false p.0, p.1, is_empty_lem (slot s c.ns c.tag))
 
+-- what the key checks lead to, as where the command leads
+abbrev pub in_slot : Result ℕ Refusal → Result (Option ℕ) Refusal
+in_slot (Ok place) = Ok (Some place)
+in_slot (Err r) = Err r
+
+module _ (s : State) (c : Command) where
+  pub reach_keyed : no_namespace c.ns ≡ false → out_of_range c ≡ false → managed (view_of s) c.ns ≡ true
+      → (k : Result ℕ Refusal) → k ≡ keyed s c → in_slot k ≡ reached s c
+  unfolding reached keyed
+  reach_keyed named range held k e =
+      ap in_slot e
+      ∙ settle_map in_slot (first_refusal (key_checks (view_of s) c)) Err (Ok (place_of c.ns c.tag))
+      ∙ (rw (named, range, held))
+
+  pub reach_none : no_namespace c.ns ≡ false → out_of_range c ≡ false → managed (view_of s) c.ns ≡ false → Ok None ≡ reached s c
+  unfolding reached
+  reach_none named range free = rw (named, range, free)
+
 -- ------------------------------------------------------------------------
 -- A command that reaches a slot
 
-never_place : (place : ℕ) (r : Refusal) → Refused r ≡ Place place → ⊥
+never_place : (place : ℕ) (r : Refusal) → Err r ≡ Ok (Some place) → ⊥
 never_place place r e = let z : ◌≡◌ {A = ℕ} 0 1 = cc in omega arith
 
-never_unmanaged : (place : ℕ) → Unmanaged ≡ Place place → ⊥
-never_unmanaged place e = let z : ◌≡◌ {A = ℕ} 0 1 = cc in omega arith
+never_none : (place : ℕ) → ◌≡◌ {A = Result (Option ℕ) Refusal} (Ok None) (Ok (Some place)) → ⊥
+never_none place e = let z : ◌≡◌ {A = ℕ} 0 1 = cc in omega arith
 
-passed_all : (cs : List (Check Refusal)) (o : Reach) (place : ℕ) → judged cs Refused o ≡ Place place → AllPass cs × (o ≡ Place place)
+passed_all : (cs : List (Check Refusal)) (o : Result (Option ℕ) Refusal) (place : ℕ) → judged cs Err o ≡ Ok (Some place)
+    → AllPass cs × (o ≡ Ok (Some place))
 passed_all cs o place e =
     ⊎_elim
     (λ r. absurd (never_place place r.0 (sym r.1 ∙ e)))
     (λ p. (p.0, sym p.1 ∙ e))
-    (judged_cases cs Refused o)
+    (judged_cases cs Err o)
 
 pub record Placed (s : State) (c : Command) (place : ℕ) : Type 0 where
   pub at : place_of c.ns c.tag ≡ place
@@ -209,15 +231,13 @@ pub record Placed (s : State) (c : Command) (place : ℕ) : Type 0 where
   pub full : empty (slot s c.ns c.tag) ≡ false
 
 module _ (s : State) (c : Command) (place : ℕ) where
-  keys_passed : (m : Bool) → goes s c m ≡ Place place → AllPass (key_checks (view_of s) c) × (place_of c.ns c.tag ≡ place)
-  unfolding keyed
-  keys_passed true e = let p = passed_all (key_checks (view_of s) c) (Place (place_of c.ns c.tag)) place e in (p.0, cc)
-  keys_passed false e = absurd (never_unmanaged place e)
+  keys_passed : (m : Bool) → goes s c m ≡ Ok (Some place) → AllPass (key_checks (view_of s) c) × (place_of c.ns c.tag ≡ place)
+  keys_passed true e = let p = passed_all (key_checks (view_of s) c) (Ok (Some (place_of c.ns c.tag))) place e in (p.0, cc)
+  keys_passed false e = absurd (never_none place e)
 
-  placed : Place place ≡ reached s c → Placed s c place
-  unfolding reached
+  placed : Ok (Some place) ≡ reached s c → Placed s c place
   placed e =
-      let p = passed_all (range_checks s c) (goes s c (managed (view_of s) c.ns)) place (sym e) in
+      let p = passed_all (range_checks s c) (goes s c (managed (view_of s) c.ns)) place (sym (range_first s c) ∙ sym e) in
       let k = keys_passed (managed (view_of s) c.ns) p.1 in
       record {
         at = k.1;
@@ -249,14 +269,14 @@ module _ (registers : Registers) (keys marks : List ℕ) (c : Command) where
   abbrev outcome : Outcome
   outcome = obey s (command (view_of s) c)
 
-  known_is : (writes : Bool) → Known c writes → is_write c || is_reading c ≡ true
-  known_is true e = rw e
-  known_is false e = rw (read_not_write c e, e)
+  known_is : (access : Access) → Known c access → is_write c || is_reading c ≡ true
+  known_is Write e = rw e
+  known_is Read e = rw (read_not_write c e, e)
 
-  pub known_leads : (writes : Bool) → Known c writes → {r : Reach} → r ≡ reached (state registers keys []) c → leads s c r ≡ outcome
-  known_leads writes e q = sym (opened_leads s c (known_is writes e) ∙ ap (leads s c) (sym (q ∙ reached_marks registers keys marks c)))
+  pub known_leads : (access : Access) → Known c access → {r : Result (Option ℕ) Refusal} → r ≡ reached (state registers keys []) c → leads s c r ≡ outcome
+  known_leads access e q = sym (opened_leads s c (known_is access e) ∙ ap (leads s c) (sym (q ∙ reached_marks registers keys marks c)))
 
-  module _ {place : ℕ} (to : Place place ≡ reached (state registers keys []) c) where
+  module _ {place : ℕ} (to : Ok (Some place) ≡ reached (state registers keys []) c) where
     pub lands : Placed s c place
     lands = placed s c place (to ∙ reached_marks registers keys marks c)
 
@@ -296,14 +316,14 @@ module _ (registers : Registers) (keys marks : List ℕ) (c : Command) where
       -- a write marks the blocks
       pub written : is_write c ≡ true → record {
         answer =
-            Done;
+            (Ok Done);
         state = state registers keys
             (marked (block_of c.ns c.first) (c.more + 1) (part (place * slot_width) mark_width keys) marks);
       } ≡ outcome
-      written e = rw covered_is (rw (write_not_read c e, e) at (known_leads true e to))
+      written e = rw covered_is (rw (write_not_read c e, e) at (known_leads Write e to))
 
       -- what reads is refused by the marks, or changes nothing
       pub read_by : {b : Bool} → b ≡ some_differs (block_of c.ns c.first) (c.more + 1) (part (place * slot_width) mark_width keys) marks
           → is_reading c ≡ true
-          → judged (00·28 when b ∷ []) (refuse s) (record { answer = Done; state = s }) ≡ outcome
-      read_by q e = rw (q, wrong_is) (rw (e, read_not_write c e) at (known_leads false e to))
+          → judged (00·28 when b ∷ []) (refuse s) (record { answer = Ok Done; state = s }) ≡ outcome
+      read_by q e = rw (q, wrong_is) (rw (e, read_not_write c e) at (known_leads Read e to))

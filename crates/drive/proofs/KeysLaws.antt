@@ -9,7 +9,7 @@ use Rattle.cells.specs.Predicates.{same}
 use Rattle.rules.specs.declared.Namespace.{Namespace}
 use Rattle.rules.specs.declared.Registers.{Registers}
 use Rattle.rules.specs.declared.BootLocks.{BootLocks}
-use Rattle.rules.specs.declared.Answer.TheVariants.{Done}
+use Rattle.rules.specs.declared.Granted.TheVariants.{Done}
 use Rattle.rules.specs.Locks.{both_locked}
 use Rattle.rules.specs.Numbers.{namespaces, blocks_each, slot_width, slot_places, slots_size, kek_size, cache_size, mark_width, store_size}
 use Rattle.rules.specs.View.{view_of, managed}
@@ -89,12 +89,12 @@ unfolding zeros
 no_counts = refl
 
 pub started : (kek keys marks : List ℕ) (r : Answered) (cache store : List ℕ) (locks : BootLocks)
-    → r ≡ record { answer = Done; registers = record { counts = 0 ∷ 0 ∷ 0 ∷ 0 ∷ []; locks = locks } } → locks ≡ both_locked
+    → r ≡ record { answer = Ok Done; registers = record { counts = 0 ∷ 0 ∷ 0 ∷ 0 ∷ []; locks = locks } } → locks ≡ both_locked
     → cache ≡ emptied_cache kek keys → store ≡ zeros store_size
     → wrong_cache keys ≡ false → wrong_store marks ≡ false → outcome r cache store ≡ start kek keys marks
 unfolding start fresh_registers
 started kek keys marks r cache store locks e l k m right whole =
     let fresh_cache_lem : cache ≡ fresh_cache kek = k ∙ ap (λ b. cond b keys (fresh_cache kek)) right in
-    let first : r ≡ record { answer = Done; registers = record { counts = zeros namespaces; locks = both_locked } } =
-    e ∙ (λ i. record { answer = Done; registers = record { counts = no_counts i; locks = l i } }) in
+    let first : r ≡ record { answer = Ok Done; registers = record { counts = zeros namespaces; locks = both_locked } } =
+    e ∙ (λ i. record { answer = Ok Done; registers = record { counts = no_counts i; locks = l i } }) in
     (λ i. outcome (first i) (fresh_cache_lem i) (m i)) ∙ (rw (whole, right))

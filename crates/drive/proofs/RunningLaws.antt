@@ -4,7 +4,7 @@ use Rattle.std.proofs.Common.{◌≡◌, ℕ, ◌+◌, ◌-◌, ◌≤◌, List,
 use Rattle.std.proofs.Common.{append_assoc, append-nil, arith, length-drop, take-append-drop, length-take-le, drop-drop, le-leb}
 use Rattle.cells.specs.Cells.{part, write}
 use Rattle.cells.proofs.CellsLaws.{lent_rest, back_rest, length_write, drop_write, write_end}
-use Rattle.rules.specs.declared.Answer.TheVariants.{Done}
+use Rattle.rules.specs.declared.Granted.TheVariants.{Done}
 use Rattle.rules.specs.declared.Registers.{Registers}
 use Rattle.rules.specs.Answers.{answer_line}
 use Rattle.rules.specs.State.{State, Outcome}
@@ -140,7 +140,7 @@ module _ (s₀ : State) (text out₀ : List ℕ) where
             }
 
     pub mid_end : length text ≤ at
-        → ◌≡◌ {A = Session} (record { result = Done; state = s; lines = lines; bytes = bytes; out = out }) (all_answered s₀ text out₀)
+        → ◌≡◌ {A = Session} (record { result = Ok Done; state = s; lines = lines; bytes = bytes; out = out }) (all_answered s₀ text out₀)
     unfolding all_answered
     mid_end h =
         let none = no_lines text at h in
@@ -159,10 +159,10 @@ module _ (s₀ : State) (text out₀ : List ℕ) where
         ∙ ap (λ t. t ++ drop bytes out) all
         ∙ ap (λ t. whole ++ t) m.rest
         ∙ ap (λ k. whole ++ drop k out₀) size in
-        ap (λ x. record { result = Done; state = x; lines = lines; bytes = bytes; out = out }) end
-        ∙ ap (λ x. record { result = Done; state = end_state s₀ (lines_of text); lines = x; bytes = bytes; out = out }) count
-        ∙ ap (λ x. record { result = Done; state = end_state s₀ (lines_of text); lines = length (lines_of text); bytes = x; out = out }) size
-        ∙ ap (λ x. record { result = Done; state = end_state s₀ (lines_of text); lines = length (lines_of text); bytes = length whole; out = x }) last
+        ap (λ x. record { result = Ok Done; state = x; lines = lines; bytes = bytes; out = out }) end
+        ∙ ap (λ x. record { result = Ok Done; state = end_state s₀ (lines_of text); lines = x; bytes = bytes; out = out }) count
+        ∙ ap (λ x. record { result = Ok Done; state = end_state s₀ (lines_of text); lines = length (lines_of text); bytes = x; out = out }) size
+        ∙ ap (λ x. record { result = Ok Done; state = end_state s₀ (lines_of text); lines = length (lines_of text); bytes = length whole; out = x }) last
 
 -- the rest of the output comes back with an answer's line at its front
 module _ (s : State) (line out last : List ℕ) (o : Outcome) (e : o ≡ step s line) (bytes r : ℕ) (room : bytes + room_for line ≤ length out)

@@ -1,43 +1,35 @@
 -- What the drive's own functions leave, in terms of the rules.
 -- Assumes nothing.
-use Rattle.std.specs.Prelude.{◌≡◌, ℕ, ◌+◌, Bool, true, false, cond, not, ◌||◌, List, [], ◌∷◌, ◌==◌, nat_le}
-use Rattle.cells.specs.Cells.{part, cell, put}
+use Rattle.std.specs.Prelude.{◌≡◌, ℕ, ◌+◌, Bool, true, false, cond, not, ◌||◌, List, [], ◌∷◌, ◌==◌, nat_le, Option, Some, None, Result, Ok, Err, ⊤}
+use Rattle.cells.specs.Cells.{part, cell, put, zeros}
 use Rattle.cells.specs.Predicates.{same}
 use Rattle.rules.specs.declared.Namespace.{Namespace}
 use Rattle.rules.specs.declared.Tag.{Tag}
 use Rattle.rules.specs.declared.Command.{Command}
 use Rattle.rules.specs.declared.Registers.{Registers}
-use Rattle.rules.specs.declared.Answer.TheVariants.{Done}
-use Rattle.rules.specs.Numbers.{slot_width, uid_most, key_size}
+use Rattle.rules.specs.declared.Refusal.{Refusal}
+use Rattle.rules.specs.Answer.{Answer, Done}
+use Rattle.rules.specs.Numbers.{slot_width, uid_most, key_size, store_size}
 use Rattle.rules.specs.View.{view_of, managed, other_key}
-use Rattle.rules.specs.Checks.{◌when◌, judged}
-use Rattle.rules.specs.Answers.{00·0B, 00·25, 00·80, 07·09, 07·0A, 07·0B, 07·0C}
-use Rattle.rules.specs.State.{State, Sized, Outcome, refuse, obey, no_namespace}
+use Rattle.rules.specs.Checks.{◌when◌, judged, only_if}
+use Rattle.rules.specs.Answers.{00·01, 00·0B, 00·25, 00·80, 07·06, 07·09, 07·0A, 07·0B, 07·0C}
+use Rattle.rules.specs.State.{State, Sized, Outcome, refuse, obey, no_namespace, count}
 use Rattle.rules.specs.Slots.{Contents, place_of, slot_bytes, emptied, empty, loaded, uid_of}
 use Rattle.rules.specs.Sound.{unsound}
 use Rattle.rules.specs.Effects.{with_keys}
 use Rattle.rules.specs.Order.{frame_rule, slot_checks, out_of_range, key_checks, is_write, is_reading}
+use Rattle.rules.specs.Start.{start_checks}
 use Rattle.rules.specs.Call.{admission}
 use Rattle.frames.specs.Reading.{Meant, frame, refusal}
-use Rattle.drive.specs.declared.Answered.{Answered}
-use Rattle.drive.specs.declared.Found.{Found}
-use Rattle.drive.specs.declared.Found.TheVariants as found
 use Rattle.drive.specs.declared.Access.{Access}
-use Rattle.drive.specs.declared.Access.TheVariants.{Write, Reads, Neither}
-use Rattle.drive.specs.declared.Reach.{Reach}
-use Rattle.drive.specs.declared.Reach.TheVariants as reach
-use Rattle.drive.specs.declared.Admission.{Admission}
-use Rattle.drive.specs.declared.Admission.TheVariants as admits
+use Rattle.drive.specs.declared.Access.TheVariants.{Write, Read}
 
 abbrev pub state : Registers → List ℕ → List ℕ → State
 state registers keys marks = record { registers = registers; keys = keys; marks = marks }
 
--- an answer with the registers, and the two stores
-abbrev pub outcome : Answered → List ℕ → List ℕ → Outcome
-outcome r keys marks = record { answer = r.answer; state = state r.registers keys marks }
-
-abbrev pub contents : List ℕ → List ℕ → Contents
-contents uid key = record { uid = uid; key = key }
+-- an answer, and what it leaves
+abbrev pub outcome : Answer → Registers → List ℕ → List ℕ → Outcome
+outcome answer registers keys marks = record { answer = answer; state = state registers keys marks }
 
 -- what a step may take for granted
 pub record Ready (registers : Registers) (keys marks : List ℕ) : Type 0 where
@@ -64,15 +56,38 @@ abbrev pub opened_at : ℕ → List ℕ → Contents
 opened_at l f = record { uid = part 5 l f; key = part (5 + l + 8) key_size f }
 
 -- ------------------------------------------------------------------------
--- The checks that load, replace and clear one begin with
+-- A start: 07 0D, 07 0E, then the store is zeroed
+
+pub record Zeroed : Type 0 where
+  pub answer : Answer
+  pub marks : List ℕ
+
+unfoldable pub zeroed : List ℕ → List ℕ → Zeroed
+zeroed keys marks =
+    judged (start_checks keys marks)
+    (λ r. record { answer = Err r; marks = marks })
+    (record { answer = Ok (Ok Done); marks = zeros store_size })
+
+-- ------------------------------------------------------------------------
+-- The checks that release and clear all begin with, and load, replace and clear one
+
+-- the tag count of a namespace that is managed, or 00 0B, 07 06
+unfoldable pub counted : State → Namespace → Result ℕ Refusal
+counted s ns =
+    judged
+    (00·0B when no_namespace ns
+    ∷ 07·06 when not (managed (view_of s) ns)
+    ∷ [])
+    Err
+    (Ok (count s ns))
 
 -- the place of a tag in a namespace with this count, or 00 25
-unfoldable pub placed : ℕ → Namespace → Tag → Found
-placed n ns tag = judged (00·25 when nat_le n tag.0 ∷ []) found.Refused (found.Place (place_of ns tag))
+unfoldable pub placed : ℕ → Namespace → Tag → Result ℕ Refusal
+placed n ns tag = judged (00·25 when nat_le n tag.0 ∷ []) Err (Ok (place_of ns tag))
 
 -- the place that the checks lead to, or their refusal
-unfoldable pub located : State → Namespace → Tag → Found
-located s ns tag = judged (slot_checks (view_of s) ns tag) found.Refused (found.Place (place_of ns tag))
+unfoldable pub located : State → Namespace → Tag → Result ℕ Refusal
+located s ns tag = judged (slot_checks (view_of s) ns tag) Err (Ok (place_of ns tag))
 
 -- load, replace and clear one at the place that was found; the last check of the first two, and what both then do
 unfoldable pub put_at : State → ℕ → Contents → Outcome
@@ -81,7 +96,7 @@ put_at s place x =
     (07·0C when other_key (view_of s).slots x
     ∷ [])
     (refuse s)
-    (record { answer = Done; state = with_keys s (put slot_width place (slot_bytes x) s.keys) })
+    (record { answer = Ok (Ok Done); state = with_keys s (put slot_width place (slot_bytes x) s.keys) })
 
 unfoldable pub load_at : State → ℕ → Contents → Outcome
 load_at s place x =
@@ -106,35 +121,35 @@ clear_at s place =
     (07·0A when empty (cell slot_width place s.keys)
     ∷ [])
     (refuse s)
-    (record { answer = Done; state = with_keys s (put slot_width place emptied s.keys) })
+    (record { answer = Ok (Ok Done); state = with_keys s (put slot_width place emptied s.keys) })
 
 -- ------------------------------------------------------------------------
 -- I/O
 
-unfoldable pub access_of : ℕ → Access
-access_of opcode = cond (opcode == 0x01) Write (cond (opcode == 0x02 || opcode == 0x05 || opcode == 0x0C) Reads Neither)
+unfoldable pub access_of : ℕ → Result Access Refusal
+access_of opcode = cond (opcode == 0x01) (Ok Write) (cond (opcode == 0x02 || opcode == 0x05 || opcode == 0x0C) (Ok Read) (Err 00·01))
 
 -- a known opcode: a write's, or that of a read, compare or verify
-abbrev pub Known : Command → Bool → Type 0
-Known c true = is_write c ≡ true
-Known c false = is_reading c ≡ true
+abbrev pub Known : Command → Access → Type 0
+Known c Write = is_write c ≡ true
+Known c Read = is_reading c ≡ true
 
 -- where the key checks of a managed namespace lead: a refusal, or a slot
-unfoldable pub keyed : State → Command → Reach
-keyed s c = judged (key_checks (view_of s) c) reach.Refused (reach.Place (place_of c.ns c.tag))
+unfoldable pub keyed : State → Command → Result ℕ Refusal
+keyed s c = judged (key_checks (view_of s) c) Err (Ok (place_of c.ns c.tag))
 
--- where a known command leads: a refusal before the marks are looked at, an unmanaged namespace, or a slot
-unfoldable pub reached : State → Command → Reach
+-- where a known command leads before the marks are looked at: a refusal, a slot, or, in an unmanaged namespace, none
+unfoldable pub reached : State → Command → Result (Option ℕ) Refusal
 reached s c =
     judged
     (00·0B when no_namespace c.ns
     ∷ 00·80 when out_of_range c
-    ∷ [])
-    reach.Refused
-    (cond (managed (view_of s) c.ns) (keyed s c) reach.Unmanaged)
+    ∷ only_if (managed (view_of s) c.ns) (key_checks (view_of s) c))
+    Err
+    (Ok (cond (managed (view_of s) c.ns) (Some (place_of c.ns c.tag)) None))
 
 -- ------------------------------------------------------------------------
 -- The three checks of a call: 07 0F, 07 0D, 07 0E
 
-unfoldable pub admitted : Bool → State → Admission
-admitted short s = judged (admission short s) admits.Refused admits.Open
+unfoldable pub admitted : Bool → State → Result ⊤ Refusal
+admitted short s = judged (admission short s) Err (Ok tt)

@@ -1,2 +1,3 @@
+pub mod Contents
 pub mod Acting
 pub mod Lines

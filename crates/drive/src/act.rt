@@ -5,87 +5,85 @@ ghost use Rattle.rules.specs.Numbers.{key_size, uid_most, digits_most};
 ghost use Rattle.rules.specs.Aes.{schedule_words};
 ghost use Rattle.rules.specs.Slots.{FitKey};
 ghost use Rattle.rules.specs.Frames.{contents_at};
-ghost use Rattle.rules.specs.Order.{obeys, step, load as loadRule, replace as replaceRule, discovery as discoveryRule};
+ghost use Rattle.rules.specs.Order.{obeys, step, load as loadRule, replace as replaceRule};
 ghost use Rattle.frames.specs.Reading.{meant, Lies, read_from};
 ghost use Rattle.drive.specs.Acting.{state, outcome, Ready, Sound, acted, replace_most};
 
-use crate::answers::refused;
-use crate::{Answered, boot, io, keys, wrapped};
+use crate::contents::Contents;
+use crate::scratch::Scratch;
+use crate::{boot, io, keys, wrapped};
 use aes::SCHEDULE;
-use frames::{BROUGHT_MOST, FrameRead};
-use rules::{Answer, FRAME_MOST, KEY_SIZE, Namespace, Registers, Tag, UID_MOST};
+use frames::FrameRead;
+use rules::{Answer, Granted, KEY_SIZE, Namespace, Refusal, Registers, Tag, UID_MOST};
 
 // The longest frame without a message.
 const REPLACE_MOST: usize = 6 + UID_MOST + UID_MOST + KEY_SIZE;
 
 // A load: its KeyUID lies from byte 5 on, the key behind it.
 fn load(
-    registers: Registers,
+    registers: &Registers,
     keys: &mut [u8],
     f: &[u8],
     ns: Namespace,
     tag: Tag,
     l: usize,
-) -> Answered
-    requires { Sound registers keys.old × (FitKey (contents_at key_size 5 l f.now) × (5 + l + key_size ≤ length f.now)) }
-    ensures { (marks : List ℕ) → outcome result keys.new marks
-        ≡ obeys (state registers keys.old marks)
+) -> Answer
+    requires { Sound registers.now keys.old × (FitKey (contents_at key_size 5 l f.now) × (5 + l + key_size ≤ length f.now)) }
+    ensures { (marks : List ℕ) → outcome result registers.now keys.new marks
+        ≡ obeys (state registers.now keys.old marks)
         (λ v. loadRule v ns tag (contents_at key_size 5 l f.now)) }
 {
     let u = 5 + l;
     let e = u + KEY_SIZE;
-    keys::load(registers, keys, ns, tag, &f[5..u], &f[u..e])
+    let x = Contents {
+        uid: &f[5..u],
+        key: &f[u..e],
+    };
+    keys::load(registers, keys, ns, tag, x)
 }
 
 // A replace: the old KeyUID lies from byte 5 on, then a length byte, the new KeyUID and the key.
 fn replace(
-    registers: Registers,
+    registers: &Registers,
     keys: &mut [u8],
     f: &[u8],
     ns: Namespace,
     tag: Tag,
     o: usize,
     l: usize,
-) -> Answered
-    requires { Sound registers keys.old × (FitKey (contents_at key_size (6 + o) l f.now) × (6 + o + l + key_size ≤ length f.now)) }
-    ensures { (marks : List ℕ) → outcome result keys.new marks
-        ≡ obeys (state registers keys.old marks)
+) -> Answer
+    requires { Sound registers.now keys.old × (FitKey (contents_at key_size (6 + o) l f.now) × (6 + o + l + key_size ≤ length f.now)) }
+    ensures { (marks : List ℕ) → outcome result registers.now keys.new marks
+        ≡ obeys (state registers.now keys.old marks)
         (λ v. replaceRule v ns tag (part 5 o f.now) (contents_at key_size (6 + o) l f.now)) }
 {
     let t = 5 + o;
     let u = 6 + o;
     let v = u + l;
     let e = v + KEY_SIZE;
-    keys::replace(registers, keys, ns, tag, &f[5..t], &f[u..v], &f[v..e])
-}
-
-// Discovery: the answer says it all, and nothing changes.
-fn discovery(registers: Registers) -> Answered
-    ensures { (keys marks : List ℕ) → outcome result keys marks
-        ≡ obeys (state registers keys marks) discoveryRule }
-{
-    Answered {
-        answer: Answer::Discovery,
-        registers,
-    }
+    let x = Contents {
+        uid: &f[u..v],
+        key: &f[v..e],
+    };
+    keys::replace(registers, keys, ns, tag, &f[5..t], x)
 }
 
 // A frame that was read from these bytes, or the refusal of its line.
 fn act(
-    registers: Registers,
+    registers: &mut Registers,
     keys: &mut [u8],
     marks: &mut [u8],
     f: &mut [u8],
-    read: FrameRead,
+    read: Result<FrameRead, Refusal>,
     words: &mut [u32; SCHEDULE],
-) -> Answered
-    requires { Ready registers keys.old marks.old × Lies f.old read }
-    ensures { (outcome result keys.new marks.new
-        ≡ acted (state registers keys.old marks.old) (meant f.old read))
+) -> Answer
+    requires { Ready registers.old keys.old marks.old × Lies f.old read }
+    ensures { (outcome result registers.new keys.new marks.new
+        ≡ acted (state registers.old keys.old marks.old) (meant f.old read))
         × (drop replace_most f.new ≡ drop replace_most f.old)
         × (words.old ≡ zeros schedule_words → words.new ≡ zeros schedule_words) }
 {
-    match read {
+    match read? {
         FrameRead::Manage(ns, tags) => keys::manage(registers, ns, tags),
         FrameRead::Release(ns) => keys::release(registers, keys, marks, ns),
         FrameRead::Load(ns, tag, l) => load(registers, keys, f, ns, tag, l),
@@ -100,8 +98,7 @@ fn act(
         FrameRead::GetFeatures => boot::get_features(registers),
         FrameRead::BootWrite(partition) => boot::boot_write(registers, partition),
         FrameRead::Reset(level) => boot::reset(registers, keys, level),
-        FrameRead::Discovery => discovery(registers),
-        FrameRead::Refused(r) => refused(registers, r),
+        FrameRead::Discovery => Ok(Granted::Discovery),
     }
 }
 
@@ -119,26 +116,22 @@ fn wipe(frame: &mut [u8], line: &[u8])
     }
 }
 
-// A line. Its bytes go to the front of the frame of zeros that is lent, and are wiped there; so are what a message brought
-// and the round keys of a wrapped load.
+// A line. Its bytes go to the front of the scratch's frame and are wiped there; so are what a message brought and the round keys of a wrapped
+// load.
 pub(crate) fn on_line(
-    registers: Registers,
+    registers: &mut Registers,
     keys: &mut [u8],
     marks: &mut [u8],
     line: &[u8],
-    frame: &mut [u8; FRAME_MOST],
-    brought: &mut [u8; BROUGHT_MOST],
-    words: &mut [u32; SCHEDULE],
-) -> Answered
-    requires { Ready registers keys.old marks.old × (frame.old ≡ zeros (digits_most / 2)) × (words.old ≡ zeros schedule_words) }
-    ensures { (outcome result keys.new marks.new
-        ≡ step (state registers keys.old marks.old) line.now)
-        × (frame.new ≡ zeros (digits_most / 2))
-        × (brought.new ≡ zeros (uid_most + key_size))
-        × (words.new ≡ zeros schedule_words) }
+    scratch: &mut Scratch,
+) -> Answer
+    requires { Ready registers.old keys.old marks.old }
+    ensures { (outcome result registers.new keys.new marks.new
+        ≡ step (state registers.old keys.old marks.old) line.now)
+        × (scratch.new.brought ≡ zeros (uid_most + key_size)) }
 {
-    let read = frames::read(line, frame, brought);
-    let told = act(registers, keys, marks, frame, read, words);
-    wipe(frame, line);
-    told
+    let read = frames::read(line, &mut scratch.frame, &mut scratch.brought);
+    let answer = act(registers, keys, marks, &mut scratch.frame, read, &mut scratch.words);
+    wipe(&mut scratch.frame, line);
+    answer
 }

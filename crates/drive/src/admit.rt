@@ -2,21 +2,25 @@
 ghost use Rattle.std.specs.Prelude.{◌≡◌};
 ghost use Rattle.drive.specs.Acting.{state, admitted};
 
-use crate::Admission;
 use rules::{Refusal, Registers, STORE_SIZE};
 
 // `short` says that the output has too little room.
-pub(crate) fn admit(short: bool, registers: Registers, keys: &[u8], marks: &[u8]) -> Admission
+pub(crate) fn admit(
+    short: bool,
+    registers: Registers,
+    keys: &[u8],
+    marks: &[u8],
+) -> Result<(), Refusal>
     ensures { result ≡ admitted short (state registers keys.now marks.now) }
 {
     if short {
-        return Admission::Refused(Refusal::OutputTooShort);
+        return Err(Refusal::OutputTooShort);
     }
     if marks.len() != STORE_SIZE {
-        return Admission::Refused(Refusal::WrongStore);
+        return Err(Refusal::WrongStore);
     }
     if sound::unsound(registers, keys) {
-        return Admission::Refused(Refusal::UnsoundState);
+        return Err(Refusal::UnsoundState);
     }
-    Admission::Open
+    Ok(())
 }

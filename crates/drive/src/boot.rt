@@ -3,55 +3,42 @@ ghost use Rattle.std.specs.Prelude.{◌≡◌, ℕ, List};
 ghost use Rattle.rules.specs.Order.{obeys, set_features, get_features, boot_write, reset as resetRule};
 ghost use Rattle.drive.specs.Acting.{state, outcome, Sound};
 
-use crate::Answered;
-use crate::answers::{done, refused, with_locks};
-use rules::{Answer, Refusal, Registers};
+use rules::{Answer, Granted, Refusal, Registers};
 
-// The pair goes by value, as all registers do; `locks::set_features` lends its own copy to the routine that changes it where it lies.
-pub(crate) fn set_features(registers: Registers, dword11: u32) -> Answered
-    ensures { (keys marks : List ℕ) → outcome result keys marks
-        ≡ obeys (state registers keys marks) (λ v. set_features v dword11) }
+// The pair is lent where it lies, to the routine that changes it there.
+pub(crate) fn set_features(registers: &mut Registers, dword11: u32) -> Answer
+    ensures { (keys marks : List ℕ) → outcome result registers.new keys marks
+        ≡ obeys (state registers.old keys marks) (λ v. set_features v dword11) }
 {
-    let locks = registers.locks;
-    let changed = locks::set_features(locks, dword11);
-    let answer = changed.answer;
-    let locks = changed.locks;
-    let registers = with_locks(registers, locks);
-    Answered { answer, registers }
+    locks::set_locks(&mut registers.locks, dword11)
 }
 
-pub(crate) fn get_features(registers: Registers) -> Answered
-    ensures { (keys marks : List ℕ) → outcome result keys marks
-        ≡ obeys (state registers keys marks) get_features }
+pub(crate) fn get_features(registers: &Registers) -> Answer
+    ensures { (keys marks : List ℕ) → outcome result registers.now keys marks
+        ≡ obeys (state registers.now keys marks) get_features }
 {
-    let locks = registers.locks;
-    let answer = Answer::LockStates(locks::shown(locks));
-    Answered { answer, registers }
+    Ok(Granted::LockStates(locks::shown(registers.locks)))
 }
 
-pub(crate) fn boot_write(registers: Registers, partition: u8) -> Answered
-    ensures { (keys marks : List ℕ) → outcome result keys marks
-        ≡ obeys (state registers keys marks) (λ v. boot_write v partition) }
+pub(crate) fn boot_write(registers: &Registers, partition: u8) -> Answer
+    ensures { (keys marks : List ℕ) → outcome result registers.now keys marks
+        ≡ obeys (state registers.now keys marks) (λ v. boot_write v partition) }
 {
-    let locks = registers.locks;
-    let answer = locks::boot_write(locks, partition);
-    Answered { answer, registers }
+    locks::boot_write(registers.locks, partition)
 }
 
 // 00 controller level, which changes nothing; 01 power cycle, after which the pair is the same whatever it was.
-pub(crate) fn reset(registers: Registers, keys: &mut [u8], level: u8) -> Answered
-    requires { Sound registers keys.old }
-    ensures { (marks : List ℕ) → outcome result keys.new marks
-        ≡ obeys (state registers keys.old marks) (λ v. resetRule v level) }
+pub(crate) fn reset(registers: &mut Registers, keys: &mut [u8], level: u8) -> Answer
+    requires { Sound registers.old keys.old }
+    ensures { (marks : List ℕ) → outcome result registers.new keys.new marks
+        ≡ obeys (state registers.old keys.old marks) (λ v. resetRule v level) }
 {
     if level > 1 {
-        return refused(registers, Refusal::InvalidField);
+        return Err(Refusal::InvalidField);
     }
-    if level == 0 {
-        return done(registers);
+    if level == 1 {
+        slots::clear_allocated(registers.counts, keys);
+        registers.locks = locks::both_locked();
     }
-    let counts = registers.counts;
-    slots::clear_allocated(counts, keys);
-    let locks = locks::both_locked();
-    done(with_locks(registers, locks))
+    Ok(Granted::Done)
 }

@@ -1,5 +1,5 @@
 // I/O commands: their fields, the key check, the marks.
-ghost use Rattle.std.specs.Prelude.{◌≡◌, ◌+◌, ◌*◌, ◌<◌, [], length};
+ghost use Rattle.std.specs.Prelude.{◌≡◌, ◌+◌, ◌*◌, ◌<◌, [], length, Some, Ok};
 ghost use Rattle.cells.specs.Cells.{part};
 ghost use Rattle.rules.specs.State.{count as count_of, IsNamespace};
 ghost use Rattle.rules.specs.Numbers.{blocks_each, slot_width, slot_places, cache_size, mark_width};
@@ -8,17 +8,17 @@ ghost use Rattle.rules.specs.Order.{obeys, command as commandRule, out_of_range}
 ghost use Rattle.marks.specs.Store.{some_differs, marked};
 ghost use Rattle.drive.specs.Acting.{state, outcome, Ready, access_of, keyed, reached, Known, Sound};
 
-use crate::answers::{count, done, no_namespace, place, refused};
-use crate::{Access, Answered, Found, Reach};
-use rules::{BLOCKS_EACH, Command, MARK_WIDTH, Refusal, Registers, SLOT_WIDTH};
+use crate::Access;
+use crate::answers::{count, no_namespace, place};
+use rules::{Answer, BLOCKS_EACH, Command, Granted, MARK_WIDTH, Refusal, Registers, SLOT_WIDTH};
 
-fn access(opcode: u8) -> Access
+fn access(opcode: u8) -> Result<Access, Refusal>
     ensures { result ≡ access_of opcode }
 {
     match opcode {
-        0x01 => Access::Write,
-        0x02 | 0x05 | 0x0C => Access::Reads,
-        0x00 | 0x03..=0x04 | 0x06..=0x0B | 0x0D..=0xFF => Access::Neither,
+        0x01 => Ok(Access::Write),
+        0x02 | 0x05 | 0x0C => Ok(Access::Read),
+        0x00 | 0x03..=0x04 | 0x06..=0x0B | 0x0D..=0xFF => Err(Refusal::InvalidOpcode),
     }
 }
 
@@ -29,44 +29,39 @@ fn out_of_range(c: Command) -> bool
     if c.first >= BLOCKS_EACH as u64 {
         return true;
     }
-    c.first as usize + c.more as usize + 1 > BLOCKS_EACH
+    c.first as usize + usize::from(c.more) + 1 > BLOCKS_EACH
 }
 
 // The key checks of a managed namespace with n tags.
-fn key_place(registers: Registers, keys: &[u8], c: Command, n: u8) -> Reach
-    requires { Sound registers keys.now × (IsNamespace c.ns × (n ≡ count_of (state registers [] []) c.ns)) }
-    ensures { result ≡ keyed (state registers keys.now []) c }
+fn key_place(registers: &Registers, keys: &[u8], c: Command, n: u8) -> Result<usize, Refusal>
+    requires { Sound registers.now keys.now × (IsNamespace c.ns × (n ≡ count_of (state registers.now [] []) c.ns)) }
+    ensures { result ≡ keyed (state registers.now keys.now []) c }
 {
     if c.cetype != 1 {
-        return Reach::Refused(Refusal::InvalidField);
+        return Err(Refusal::InvalidField);
     }
-    match place(n, c.ns, c.tag) {
-        Found::Refused(r) => Reach::Refused(r),
-        Found::Place(at) => {
-            if !slots::loaded(keys, at) {
-                return Reach::Refused(Refusal::InvalidKeyTag);
-            }
-            Reach::Place(at)
-        }
+    let at = place(n, c.ns, c.tag)?;
+    if !slots::loaded(keys, at) {
+        return Err(Refusal::InvalidKeyTag);
     }
+    Ok(at)
 }
 
-// The checks of a command with a known opcode, up to the marks.
-fn reach(registers: Registers, keys: &[u8], c: Command) -> Reach
-    requires { Sound registers keys.now }
-    ensures { result ≡ reached (state registers keys.now []) c }
+// The checks of a command with a known opcode, up to the marks: the slot that it reaches, none in an unmanaged namespace.
+fn reach(registers: &Registers, keys: &[u8], c: Command) -> Result<Option<usize>, Refusal>
+    requires { Sound registers.now keys.now }
+    ensures { result ≡ reached (state registers.now keys.now []) c }
 {
     if no_namespace(c.ns) {
-        return Reach::Refused(Refusal::InvalidNamespace);
+        return Err(Refusal::InvalidNamespace);
     }
     if out_of_range(c) {
-        return Reach::Refused(Refusal::BlocksOutOfRange);
+        return Err(Refusal::BlocksOutOfRange);
     }
-    let n = count(registers, c.ns);
-    if n == 0 {
-        return Reach::Unmanaged;
+    match count(registers, c.ns) {
+        0 => Ok(None),
+        n => key_place(registers, keys, c, n).map(Some),
     }
-    key_place(registers, keys, c, n)
 }
 
 // 00 28: whether a covered block was written under another identity than that of the slot's key.
@@ -99,52 +94,39 @@ fn block_of(c: Command) -> usize
 
 // At a slot: a write marks the covered blocks; a read, compare or verify is held to their marks.
 fn at_place(
-    registers: Registers,
+    registers: &Registers,
     keys: &[u8],
     marks: &mut [u8],
     c: Command,
     place: usize,
-    writes: bool,
-) -> Answered
-    requires { Ready registers keys.now marks.old × Known c writes × (Reach.Place place ≡ reached (state registers keys.now []) c) }
-    ensures { outcome result keys.now marks.new
-        ≡ obeys (state registers keys.now marks.old) (λ v. commandRule v c) }
+    access: Access,
+) -> Answer
+    requires { Ready registers.now keys.now marks.old × Known c access × (Ok (Some place) ≡ reached (state registers.now keys.now []) c) }
+    ensures { outcome result registers.now keys.now marks.new
+        ≡ obeys (state registers.now keys.now marks.old) (λ v. commandRule v c) }
 {
     let block = block_of(c);
-    let n = c.more as usize + 1;
-    if writes {
-        mark_covered(keys, marks, place, block, n);
-        return done(registers);
+    let n = usize::from(c.more) + 1;
+    match access {
+        Access::Write => mark_covered(keys, marks, place, block, n),
+        Access::Read => {
+            if wrong_key(keys, marks, place, block, n) {
+                return Err(Refusal::IncorrectKey);
+            }
+        }
     }
-    if wrong_key(keys, marks, place, block, n) {
-        return refused(registers, Refusal::IncorrectKey);
-    }
-    done(registers)
-}
-
-// A command with a known opcode.
-fn known(registers: Registers, keys: &[u8], marks: &mut [u8], c: Command, writes: bool) -> Answered
-    requires { Ready registers keys.now marks.old × Known c writes }
-    ensures { outcome result keys.now marks.new
-        ≡ obeys (state registers keys.now marks.old) (λ v. commandRule v c) }
-{
-    match reach(registers, keys, c) {
-        Reach::Refused(r) => refused(registers, r),
-        Reach::Unmanaged => done(registers),
-        Reach::Place(place) => at_place(registers, keys, marks, c, place, writes),
-    }
+    Ok(Granted::Done)
 }
 
 // One I/O command. It leaves the keys as they are.
-pub(crate) fn command(registers: Registers, keys: &[u8], marks: &mut [u8], c: Command) -> Answered
-    requires { Ready registers keys.now marks.old }
-    ensures { outcome result keys.now marks.new
-        ≡ obeys (state registers keys.now marks.old) (λ v. commandRule v c) }
+pub(crate) fn command(registers: &Registers, keys: &[u8], marks: &mut [u8], c: Command) -> Answer
+    requires { Ready registers.now keys.now marks.old }
+    ensures { outcome result registers.now keys.now marks.new
+        ≡ obeys (state registers.now keys.now marks.old) (λ v. commandRule v c) }
 {
-    let opcode = c.opcode;
-    match access(opcode) {
-        Access::Neither => refused(registers, Refusal::InvalidOpcode),
-        Access::Write => known(registers, keys, marks, c, true),
-        Access::Reads => known(registers, keys, marks, c, false),
+    let access = access(c.opcode)?;
+    match reach(registers, keys, c)? {
+        None => Ok(Granted::Done),
+        Some(place) => at_place(registers, keys, marks, c, place, access),
     }
 }

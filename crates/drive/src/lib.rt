@@ -12,18 +12,18 @@ mod act;
 mod admit;
 mod answers;
 mod boot;
+mod contents;
 mod io;
 mod keys;
 mod lines;
 mod running;
+mod scratch;
 mod wrapped;
 
-use aes::SCHEDULE;
-use frames::BROUGHT_MOST;
 use rules::{
-    Answer, CACHE_SIZE, FRAME_MOST, KEK_SIZE, NAMESPACES, Refusal, Registers, SLOTS_SIZE,
-    STORE_SIZE,
+    Answer, CACHE_SIZE, Granted, KEK_SIZE, NAMESPACES, Refusal, Registers, SLOTS_SIZE, STORE_SIZE,
 };
+use scratch::Scratch;
 
 // An answer, and the registers after it.
 #[derive(Clone, Copy)]
@@ -49,34 +49,11 @@ pub struct SessionReply {
     pub bytes: usize,
 }
 
-// Where a namespace and a tag lead.
-#[derive(Clone, Copy)]
-pub(crate) enum Found {
-    Place(usize),
-    Refused(Refusal),
-}
-
 // What an opcode does to the medium.
 #[derive(Clone, Copy)]
 pub(crate) enum Access {
     Write,
-    Reads,
-    Neither,
-}
-
-// Where a known command leads.
-#[derive(Clone, Copy)]
-pub(crate) enum Reach {
-    Place(usize),
-    Unmanaged,
-    Refused(Refusal),
-}
-
-// Whether a call goes on to its lines.
-#[derive(Clone, Copy)]
-pub(crate) enum Admission {
-    Open,
-    Refused(Refusal),
+    Read,
 }
 
 // A cache of the right length with no keys, and with this key-encryption key; any other stays.
@@ -90,22 +67,33 @@ fn emptied(kek: &[u8; KEK_SIZE], keys: &mut [u8])
     cells::copy(&mut keys[SLOTS_SIZE..], kek);
 }
 
+// 07 0D, 07 0E; then the store is zeroed.
+fn zeroed(keys: &[u8], marks: &mut [u8]) -> Answer
+    ensures { record { answer = result; marks = marks.new } ≡ zeroed keys.now marks.old }
+{
+    if marks.len() != STORE_SIZE {
+        return Err(Refusal::WrongStore);
+    }
+    if keys.len() != CACHE_SIZE {
+        return Err(Refusal::UnsoundState);
+    }
+    cells::fill_zero(marks);
+    Ok(Granted::Done)
+}
+
 // Starts a fresh drive: a cache of the right length emptied, and then a store of the right length zeroed. What has another length stays.
 pub fn start(kek: &[u8; KEK_SIZE], keys: &mut [u8], marks: &mut [u8]) -> Answered
     ensures { outcome result keys.new marks.new ≡ started kek.now keys.old marks.old }
 {
     emptied(kek, keys);
-    let counts = [0u8; NAMESPACES];
-    let locks = locks::both_locked();
-    let registers = Registers { counts, locks };
-    if marks.len() != STORE_SIZE {
-        return answers::refused(registers, Refusal::WrongStore);
+    let registers = Registers {
+        counts: [0; NAMESPACES],
+        locks: locks::both_locked(),
+    };
+    Answered {
+        answer: zeroed(keys, marks),
+        registers,
     }
-    if keys.len() != CACHE_SIZE {
-        return answers::refused(registers, Refusal::UnsoundState);
-    }
-    cells::fill_zero(marks);
-    answers::done(registers)
 }
 
 // A line on a drive that was found ready, with room for its answer.
@@ -125,20 +113,9 @@ fn on_ready(
     }
         ≡ answered (state registers keys.old marks.old) line.now out.old }
 {
-    let mut frame = [0u8; FRAME_MOST];
-    let mut brought = [0u8; BROUGHT_MOST];
-    let mut words = [0u32; SCHEDULE];
-    let told = act::on_line(
-        registers,
-        keys,
-        marks,
-        line,
-        &mut frame,
-        &mut brought,
-        &mut words,
-    );
-    let answer = told.answer;
-    let registers = told.registers;
+    let mut registers = registers;
+    let mut scratch = Scratch::new();
+    let answer = act::on_line(&mut registers, keys, marks, line, &mut scratch);
     let bytes = digits::write_answer(answer, out);
     Reply {
         answer,
@@ -165,12 +142,12 @@ pub fn answer_line(
 {
     let short = out.len() < lines::room_for(line);
     match admit::admit(short, registers, keys, marks) {
-        Admission::Refused(r) => Reply {
-            answer: Answer::Refused(r),
+        Err(refusal) => Reply {
+            answer: Err(refusal),
             registers,
             bytes: 0,
         },
-        Admission::Open => on_ready(registers, keys, marks, line, out),
+        Ok(()) => on_ready(registers, keys, marks, line, out),
     }
 }
 
@@ -193,12 +170,12 @@ pub fn answer_session(
 {
     let short = lines::need_more_than(text, out.len());
     match admit::admit(short, registers, keys, marks) {
-        Admission::Refused(r) => SessionReply {
-            result: Answer::Refused(r),
+        Err(refusal) => SessionReply {
+            result: Err(refusal),
             registers,
             lines: 0,
             bytes: 0,
         },
-        Admission::Open => running::run(registers, keys, marks, text, out),
+        Ok(()) => running::run(registers, keys, marks, text, out),
     }
 }

@@ -5,13 +5,11 @@ ghost use Rattle.drive.specs.Acting.{state, Ready};
 
 use crate::SessionReply;
 use crate::act::on_line;
-use crate::lines::next_line;
-use aes::SCHEDULE;
-use frames::BROUGHT_MOST;
-use rules::{Answer, FRAME_MOST, Registers};
+use crate::lines::Lines;
+use crate::scratch::Scratch;
+use rules::{Granted, Registers};
 
-// Answers each line; each answer goes to the part of the output that starts where the last one ended. One frame serves all lines, and so do
-// the bytes for what a message brings and the words for round keys.
+// Answers each line; each answer goes to the part of the output that starts where the last one ended. One scratch serves all lines.
 pub(crate) fn run(
     registers: Registers,
     keys: &mut [u8],
@@ -29,33 +27,17 @@ pub(crate) fn run(
     }
         ≡ all_answered (state registers keys.old marks.old) text.now out.old }
 {
-    let mut frame = [0u8; FRAME_MOST];
-    let mut brought = [0u8; BROUGHT_MOST];
-    let mut words = [0u32; SCHEDULE];
     let mut registers = registers;
-    let mut at = 0;
+    let mut scratch = Scratch::new();
     let mut lines = 0;
     let mut bytes = 0;
-    while at < text.len() {
-        let line = next_line(text, at);
-        let end = line.end;
-        let told = on_line(
-            registers,
-            keys,
-            marks,
-            &text[at..end],
-            &mut frame,
-            &mut brought,
-            &mut words,
-        );
-        registers = told.registers;
-        let answer = told.answer;
+    for line in Lines(text) {
+        let answer = on_line(&mut registers, keys, marks, line, &mut scratch);
         bytes += digits::write_answer(answer, &mut out[bytes..]);
-        at = line.next;
         lines += 1;
     }
     SessionReply {
-        result: Answer::Done,
+        result: Ok(Granted::Done),
         registers,
         lines,
         bytes,

@@ -12,10 +12,11 @@ ghost use Rattle.rules.specs.Order.{obeys, slot_checks, load as loadRule, load_w
 ghost use Rattle.wrap.specs.Wrapping.{told};
 ghost use Rattle.drive.specs.Acting.{state, outcome, Sound, replace_most, opened_at};
 
-use crate::answers::{locate, refused};
-use crate::{Answered, Found, keys};
+use crate::answers::locate;
+use crate::contents::Contents;
+use crate::keys;
 use aes::SCHEDULE;
-use rules::{KEY_SIZE, Namespace, Refusal, Registers, SLOTS_SIZE, Tag, WRAPPED_SIZE};
+use rules::{Answer, KEY_SIZE, Namespace, Refusal, Registers, SLOTS_SIZE, Tag, WRAPPED_SIZE};
 use wrap::VALUE_SIZE;
 
 // Opens the wrapped key behind a KeyUID of l bytes.
@@ -33,67 +34,69 @@ fn open(keys: &[u8], f: &mut [u8], l: usize, words: &mut [u32; SCHEDULE]) -> boo
 
 // Loads a key that was opened.
 fn clear(
-    registers: Registers,
+    registers: &Registers,
     keys: &mut [u8],
     f: &[u8],
     ns: Namespace,
     tag: Tag,
     l: usize,
-) -> Answered
-    requires { Sound registers keys.old × (FitKey (opened_at l f.now) × (l ≤ uid_most) × (5 + l + wrapped_size ≤ length f.now)) }
-    ensures { (marks : List ℕ) → outcome result keys.new marks
-        ≡ obeys (state registers keys.old marks)
+) -> Answer
+    requires { Sound registers.now keys.old × (FitKey (opened_at l f.now) × (l ≤ uid_most) × (5 + l + wrapped_size ≤ length f.now)) }
+    ensures { (marks : List ℕ) → outcome result registers.now keys.new marks
+        ≡ obeys (state registers.now keys.old marks)
         (λ v. loadRule v ns tag (opened_at l f.now)) }
 {
     let u = 5 + l;
     let k = u + VALUE_SIZE;
     let e = k + KEY_SIZE;
-    keys::load(registers, keys, ns, tag, &f[5..u], &f[k..e])
+    let x = Contents {
+        uid: &f[5..u],
+        key: &f[k..e],
+    };
+    keys::load(registers, keys, ns, tag, x)
 }
 
 // With the slot's checks passed: 07 10, then a load.
 fn opened(
-    registers: Registers,
+    registers: &Registers,
     keys: &mut [u8],
     f: &mut [u8],
     ns: Namespace,
     tag: Tag,
     l: usize,
     words: &mut [u32; SCHEDULE],
-) -> Answered
-    requires { Sound registers keys.old × (FitWrapped (contents_at wrapped_size 5 l f.old) × (5 + l + wrapped_size ≤ length f.old))
-        × AllPass (slot_checks (view_of (state registers [] [])) ns tag) }
-    ensures { ((marks : List ℕ) → outcome result keys.new marks
-        ≡ obeys (state registers keys.old marks)
+) -> Answer
+    requires { Sound registers.now keys.old × (FitWrapped (contents_at wrapped_size 5 l f.old) × (5 + l + wrapped_size ≤ length f.old))
+        × AllPass (slot_checks (view_of (state registers.now [] [])) ns tag) }
+    ensures { ((marks : List ℕ) → outcome result registers.now keys.new marks
+        ≡ obeys (state registers.now keys.old marks)
         (λ v. wrapped_rule v ns tag (contents_at wrapped_size 5 l f.old)))
         × (drop replace_most f.new ≡ drop replace_most f.old)
         × (words.new ≡ zeros schedule_words) }
 {
     if !open(keys, f, l, words) {
-        return refused(registers, Refusal::IntegrityFailed);
+        return Err(Refusal::IntegrityFailed);
     }
     clear(registers, keys, f, ns, tag, l)
 }
 
 // What is behind a frame's bytes stays, and the round keys are wiped.
 pub(crate) fn load(
-    registers: Registers,
+    registers: &Registers,
     keys: &mut [u8],
     f: &mut [u8],
     ns: Namespace,
     tag: Tag,
     l: usize,
     words: &mut [u32; SCHEDULE],
-) -> Answered
-    requires { Sound registers keys.old × (FitWrapped (contents_at wrapped_size 5 l f.old) × (5 + l + wrapped_size ≤ length f.old)) }
-    ensures { ((marks : List ℕ) → outcome result keys.new marks
-        ≡ obeys (state registers keys.old marks)
+) -> Answer
+    requires { Sound registers.now keys.old × (FitWrapped (contents_at wrapped_size 5 l f.old) × (5 + l + wrapped_size ≤ length f.old)) }
+    ensures { ((marks : List ℕ) → outcome result registers.now keys.new marks
+        ≡ obeys (state registers.now keys.old marks)
         (λ v. wrapped_rule v ns tag (contents_at wrapped_size 5 l f.old)))
         × (drop replace_most f.new ≡ drop replace_most f.old)
         × (words.old ≡ zeros schedule_words → words.new ≡ zeros schedule_words) }
 {
-    match locate(registers, ns, tag) {
-        Found::Refused(r) => refused(registers, r),
-        Found::Place(_) => opened(registers, keys, f, ns, tag, l, words),
-    }
+    locate(registers, ns, tag)?;
+    opened(registers, keys, f, ns, tag, l, words)
 }

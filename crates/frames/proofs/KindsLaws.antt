@@ -23,7 +23,7 @@ use Rattle.frames.specs.Reading.{numbers_of, numbered}
 -- Frames of one length
 
 module _ (n : ℕ) (f : List ℕ) (frame : Frame) where
-  pub wrong_length_lem : (length f ≡ n → ⊥) → Refused 07·03 ≡ numbered (exactly n f frame)
+  pub wrong_length_lem : (length f ≡ n → ⊥) → Err 07·03 ≡ numbered (exactly n f frame)
   unfolding numbered
   wrong_length_lem h = rw (ne_eqb (length f) n h)
 
@@ -58,17 +58,17 @@ module _ (f : List ℕ) where
     abbrev loading : Reading
     loading = record { checks = load_checks size f; frame = frame }
 
-    pub load_short : length f < 5 → Refused 07·03 ≡ numbered loading
+    pub load_short : length f < 5 → Err 07·03 ≡ numbered loading
     unfolding numbered
     load_short h = rw (lt-ltb (length f) 5 h)
 
     module _ (head : 5 ≤ length f) where
-      pub load_bad : bad_uid_length (byte 4 f) ≡ true → Refused 07·04 ≡ numbered loading
+      pub load_bad : bad_uid_length (byte 4 f) ≡ true → Err 07·04 ≡ numbered loading
       unfolding numbered
       load_bad bad = rw (le-ltb (length f) 5 head, bad)
 
       module _ (good : bad_uid_length (byte 4 f) ≡ false) where
-        pub load_wrong : (length f ≡ 5 + byte 4 f + size → ⊥) → Refused 07·03 ≡ numbered loading
+        pub load_wrong : (length f ≡ 5 + byte 4 f + size → ⊥) → Err 07·03 ≡ numbered loading
         unfolding numbered
         load_wrong h = rw (le-ltb (length f) 5 head, good, ne_eqb (length f) (5 + byte 4 f + size) h)
 
@@ -76,7 +76,7 @@ module _ (f : List ℕ) where
         unfolding numbered
         load_right h = rw (le-ltb (length f) 5 head, good, eq-eqb (length f) (5 + byte 4 f + size) h)
 
-  pub replace_short : length f < 5 → Refused 07·03 ≡ numbered (read_replace f)
+  pub replace_short : length f < 5 → Err 07·03 ≡ numbered (read_replace f)
   unfolding numbered read_replace
   replace_short h = rw (lt-ltb (length f) 5 h)
 
@@ -84,12 +84,12 @@ module _ (f : List ℕ) where
     abbrev first : ℕ
     first = byte 4 f
 
-    pub replace_bad_old : bad_uid_length first ≡ true → Refused 07·04 ≡ numbered (read_replace f)
+    pub replace_bad_old : bad_uid_length first ≡ true → Err 07·04 ≡ numbered (read_replace f)
     unfolding numbered read_replace
     replace_bad_old bad = rw (le-ltb (length f) 5 head, bad)
 
     module _ (good : bad_uid_length first ≡ false) where
-      pub replace_no_new : length f < 6 + first → Refused 07·03 ≡ numbered (read_replace f)
+      pub replace_no_new : length f < 6 + first → Err 07·03 ≡ numbered (read_replace f)
       unfolding numbered read_replace
       replace_no_new h = rw (le-ltb (length f) 5 head, good, lt-ltb (length f) (6 + first) h)
 
@@ -97,12 +97,12 @@ module _ (f : List ℕ) where
         abbrev second : ℕ
         second = byte (5 + first) f
 
-        pub replace_bad_new : bad_uid_length second ≡ true → Refused 07·04 ≡ numbered (read_replace f)
+        pub replace_bad_new : bad_uid_length second ≡ true → Err 07·04 ≡ numbered (read_replace f)
         unfolding numbered read_replace
         replace_bad_new bad = rw (le-ltb (length f) 5 head, good, le-ltb (length f) (6 + first) new, bad)
 
         module _ (fine : bad_uid_length second ≡ false) where
-          pub replace_wrong : (length f ≡ 6 + first + second + key_size → ⊥) → Refused 07·03 ≡ numbered (read_replace f)
+          pub replace_wrong : (length f ≡ 6 + first + second + key_size → ⊥) → Err 07·03 ≡ numbered (read_replace f)
           unfolding numbered read_replace
           replace_wrong h =
               rw (le-ltb (length f) 5 head, good, le-ltb (length f) (6 + first) new, fine, ne_eqb (length f) (6 + first + second + key_size) h)

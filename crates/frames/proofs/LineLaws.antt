@@ -78,8 +78,8 @@ unfolding read_as numbered
 as_frame line f p =
     let rest = (read_frame (decoded line)).checks in
     let frame = (read_frame (decoded line)).frame in
-    let read : judged (reading_checks line) Refused (numbers_of frame) ≡ judged rest Refused (numbers_of frame) =
-    judged_refusing 07·01 (line_checks line) rest Refused (numbers_of frame) ∙ judged_pass (line_checks line) _ _ p in
+    let read : judged (reading_checks line) Err (numbers_of frame) ≡ judged rest Err (numbers_of frame) =
+    judged_refusing 07·01 (line_checks line) rest Err (numbers_of frame) ∙ judged_pass (line_checks line) _ _ p in
     let left : judged (reading_checks line) (λ why. f) (placed frame f) ≡ judged rest (λ why. f) (placed frame f) =
     judged_refusing 07·01 (line_checks line) rest (λ why. f) (placed frame f) ∙ judged_pass (line_checks line) _ _ p in
     rw (read, left)
@@ -101,16 +101,16 @@ module _ (line f last : List ℕ) {r : LineRead} (became : record { read = r; fr
   left = ap (λ (x : ReadInto). x.frame) became
 
   -- no frame line
-  pub not_a_line : (why : BadLine) → r ≡ Bad why → record { read = Refused (07·01 why); frame = last } ≡ read_from line f
+  pub not_a_line : (why : BadLine) → r ≡ Bad why → record { read = Err (07·01 why); frame = last } ≡ read_from line f
   unfolding read_from read_as numbered read_line
   not_a_line why e =
       let rest = (read_frame (decoded line)).checks in
       let came = (read_into line f).frame in
       let v : first_refusal (line_checks line) ≡ refused why =
       bad_then (first_refusal (line_checks line)) (length line / 2) why (sym read_is ∙ e) in
-      let read : judged (reading_checks line) Refused (numbers_of (frame_of line)) ≡ Refused (07·01 why) =
-      judged_refusing 07·01 (line_checks line) rest Refused (numbers_of (frame_of line))
-      ∙ ap (λ w. settle w (λ a. Refused (07·01 a)) (judged rest Refused (numbers_of (frame_of line)))) v in
+      let read : judged (reading_checks line) Err (numbers_of (frame_of line)) ≡ Err (07·01 why) =
+      judged_refusing 07·01 (line_checks line) rest Err (numbers_of (frame_of line))
+      ∙ ap (λ w. settle w (λ a. Err (07·01 a)) (judged rest Err (numbers_of (frame_of line)))) v in
       let stays : judged (reading_checks line) (λ why. came) (placed (frame_of line) came) ≡ came =
       judged_refusing 07·01 (line_checks line) rest (λ why. came) (placed (frame_of line) came)
       ∙ ap (λ w. settle w (λ a. came) (judged rest (λ why. came) (placed (frame_of line) came))) v in

@@ -140,7 +140,7 @@ module _ (n : ℕ) (xs : List ℕ) (head : 4 ≤ n) (h : n ≤ length xs) where
         ∙ ap (λ k. loaded (namespace (byte 1 lent)) (key_tag k) xs (came lent xs out whole_head size)) (second ∙ ap little (sym tag_field))
         ∙ message_read lent xs out whole_head size
 
-pub message_short : (d f : List ℕ) → length d < 4 → record { read = Refused 07·03; frame = f } ≡ read_as (read_message d) f
+pub message_short : (d f : List ℕ) → length d < 4 → record { read = Err 07·03; frame = f } ≡ read_as (read_message d) f
 unfolding read_message read_as numbered
 message_short d f h = rw (lt-ltb (length d) 4 h)
 

@@ -127,7 +127,7 @@ same_passed : (v : Verdict Refusal) (x y : Meant) → (v ≡ passed → x ≡ y)
 same_passed passed x y h = h refl
 same_passed (refused q) x y h = refl
 
-lies_passed : (f : List ℕ) (v : Verdict Refusal) (x : FrameRead) → (v ≡ passed → Lies f x) → Lies f (settle v Refused x)
+lies_passed : (f : List ℕ) (v : Verdict Refusal) (x : FrameRead) → (v ≡ passed → Lies f x) → Lies f (settle v Err x)
 lies_passed f passed x h = h refl
 lies_passed f (refused q) x h = tt
 
@@ -136,7 +136,7 @@ module _ (line bytes : List ℕ) (r : FrameRead) (f : List ℕ) (room : 5 + uid_
   abbrev came : List ℕ
   came = (read_into line bytes).frame
 
-  numbers : r ≡ judged (reading_checks line) Refused (numbers_of (frame_of line))
+  numbers : r ≡ judged (reading_checks line) Err (numbers_of (frame_of line))
   unfolding read_from read_as numbered
   numbers = ap (λ (x : ReadFrom). x.read) e
 
@@ -156,7 +156,7 @@ module _ (line bytes : List ℕ) (r : FrameRead) (f : List ℕ) (room : 5 + uid_
   pub means : meant f r ≡ judged (reading_checks line) refusal (frame (frame_of line))
   means =
       ap (meant f) numbers
-      ∙ judged_map (reading_checks line) (meant f) Refused (numbers_of (frame_of line))
+      ∙ judged_map (reading_checks line) (meant f) Err (numbers_of (frame_of line))
       ∙ same_passed (first_refusal (reading_checks line)) _ _ (λ v. (kept v).stands)
 
   pub lies : Lies f r

@@ -1,51 +1,39 @@
 // Numbers in a frame's bytes, the lowest byte first, and the fields of an I/O command.
-ghost use Rattle.std.specs.Prelude.{◌≡◌, ◌+◌, ◌≤◌, length};
-ghost use Rattle.cells.specs.Cells.{part};
+ghost use Rattle.std.specs.Prelude.{◌≡◌};
+ghost use Rattle.rules.specs.State.{namespace, key_tag};
 ghost use Rattle.rules.specs.Fields.{little};
 ghost use Rattle.rules.specs.Frames.{command_of};
 
 use rules::{Command, Namespace, Tag};
 
-// Two, four and eight bytes from at.
-pub(crate) fn word(f: &[u8], at: usize) -> u16
-    requires { at + 2 ≤ length f.now }
-    ensures { result ≡ little (part at 2 f.now) }
+// A command's bytes.
+pub(crate) const COMMAND: usize = 64;
+
+// A namespace of one byte, as every kind but I/O has it.
+pub(crate) fn namespace_of(b: u8) -> Namespace
+    ensures { result ≡ namespace b }
 {
-    let low = f[at] as u16;
-    let high = f[at + 1] as u16;
-    low + 256 * high
+    Namespace(u32::from(b))
 }
 
-pub(crate) fn dword(f: &[u8], at: usize) -> u32
-    requires { at + 4 ≤ length f.now }
-    ensures { result ≡ little (part at 4 f.now) }
+// A tag of two bytes.
+pub(crate) fn tag_of(bytes: [u8; 2]) -> Tag
+    ensures { result ≡ key_tag (little bytes) }
 {
-    let low = word(f, at) as u32;
-    let high = word(f, at + 2) as u32;
-    low + 65536 * high
+    Tag(u16::from_le_bytes(bytes))
 }
 
-fn qword(f: &[u8], at: usize) -> u64
-    requires { at + 8 ≤ length f.now }
-    ensures { result ≡ little (part at 8 f.now) }
-{
-    let low = dword(f, at) as u64;
-    let high = dword(f, at + 4) as u64;
-    low + 4294967296 * high
-}
-
-// The fields of a 64-byte command. CETYPE is bits 19:16 of Dword 12.
-pub(crate) fn command(c: &[u8]) -> Command
-    requires { length c.now ≡ 64 }
+// The fields of a command. CETYPE is bits 19:16 of Dword 12.
+pub(crate) fn command(c: &[u8; COMMAND]) -> Command
     ensures { result ≡ command_of c.now }
 {
-    let dword12 = dword(c, 48);
+    let dword12 = u32::from_le_bytes([c[48], c[49], c[50], c[51]]);
     Command {
         opcode: c[0],
-        ns: Namespace(dword(c, 4)),
-        first: qword(c, 40),
-        more: word(c, 48),
+        ns: Namespace(u32::from_le_bytes([c[4], c[5], c[6], c[7]])),
+        first: u64::from_le_bytes([c[40], c[41], c[42], c[43], c[44], c[45], c[46], c[47]]),
+        more: u16::from_le_bytes([c[48], c[49]]),
         cetype: (dword12 >> 16) & 15,
-        tag: Tag(word(c, 52)),
+        tag: tag_of([c[52], c[53]]),
     }
 }

@@ -1,252 +1,223 @@
 // A frame's bytes by its kind: the length, then the fields.
-ghost use Rattle.std.specs.Prelude.{◌≡◌, ◌≤◌, ◌<◌, ◌+◌, length, take, drop};
-ghost use Rattle.cells.specs.Cells.{write};
+ghost use Rattle.std.specs.Prelude.{◌≡◌, ◌≤◌, ◌<◌, ◌+◌, length, take, drop, Ok, Err};
 ghost use Rattle.rules.specs.Fields.{byte, bytes};
 ghost use Rattle.rules.specs.State.{namespace, key_tag};
+ghost use Rattle.rules.specs.Checks.{judged};
 ghost use Rattle.rules.specs.Frames.{manage as Manage, release as Release, clear_one as ClearOne, clear_all as ClearAll, io as Io, set_features as SetFeatures};
 ghost use Rattle.rules.specs.Frames.{get_features as GetFeatures, boot_write as BootWrite, reset as Reset, discovery as Discovery};
-ghost use Rattle.rules.specs.Numbers.{uid_most, key_size};
-ghost use Rattle.rules.specs.Frames.{exactly, read_load, read_wrapped, read_replace, read_message, read_frame, command_of};
-ghost use Rattle.frames.specs.Reading.{numbered, read_as, as_load, Short};
+ghost use Rattle.rules.specs.Frames.{exactly, load_checks, read_load, read_wrapped, read_replace, read_message, read_frame, command_of};
+ghost use Rattle.frames.specs.Reading.{numbered, read_as, uid_length};
 
-use crate::fields::{dword, word};
-use crate::{FrameRead, fields};
-use kmip::MessageRead;
-use rules::{KEY_SIZE, Namespace, Refusal, Tag, UID_MOST, WRAPPED_SIZE};
+use crate::fields::{command, namespace_of, tag_of};
+use crate::{BROUGHT_MOST, FrameRead, ToSlot};
+use rules::{FRAME_MOST, KEY_SIZE, Refusal, Tag, UID_MOST, WRAPPED_SIZE};
 
-// A namespace of one byte, as every kind but I/O has it.
-fn namespace_of(b: u8) -> Namespace
-    ensures { result ≡ namespace b }
-{
-    Namespace(b as u32)
-}
-
-fn manage(f: &[u8]) -> FrameRead
+fn manage(f: &[u8]) -> Result<FrameRead, Refusal>
     ensures { result ≡ numbered (exactly 3 f.now (Manage (namespace (byte 1 f.now)) (byte 2 f.now))) }
 {
-    if f.len() != 3 {
-        return FrameRead::Refused(Refusal::WrongLength);
+    match f {
+        [_, ns, tags] => Ok(FrameRead::Manage(namespace_of(*ns), *tags)),
+        _ => Err(Refusal::WrongLength),
     }
-    FrameRead::Manage(namespace_of(f[1]), f[2])
 }
 
-fn release(f: &[u8]) -> FrameRead
+fn release(f: &[u8]) -> Result<FrameRead, Refusal>
     ensures { result ≡ numbered (exactly 2 f.now (Release (namespace (byte 1 f.now)))) }
 {
-    if f.len() != 2 {
-        return FrameRead::Refused(Refusal::WrongLength);
+    match f {
+        [_, ns] => Ok(FrameRead::Release(namespace_of(*ns))),
+        _ => Err(Refusal::WrongLength),
     }
-    FrameRead::Release(namespace_of(f[1]))
 }
 
-fn load(f: &[u8]) -> FrameRead
+// A KeyUID's length.
+fn uid_length(l: u8) -> Result<usize, Refusal>
+    ensures { result ≡ uid_length l }
+{
+    match usize::from(l) {
+        l @ 1..=UID_MOST => Ok(l),
+        _ => Err(Refusal::BadKeyUidLength),
+    }
+}
+
+// A load whose key, clear or wrapped, has N bytes: which slot it names, and its KeyUID's length.
+fn to_slot<const N: usize>(f: &[u8]) -> Result<ToSlot, Refusal>
+    requires { N ≤ 256 }
+    ensures { result ≡ judged (load_checks N f.now) Err
+        (Ok (record { ns = namespace (byte 1 f.now); tag = key_tag (bytes 2 3 f.now); l = byte 4 f.now })) }
+{
+    let [_, ns, low, high, l, ..] = f else {
+        return Err(Refusal::WrongLength);
+    };
+    let l = uid_length(*l)?;
+    if f.len() != 5 + l + N {
+        return Err(Refusal::WrongLength);
+    }
+    Ok(ToSlot {
+        ns: namespace_of(*ns),
+        tag: tag_of([*low, *high]),
+        l,
+    })
+}
+
+fn load(f: &[u8]) -> Result<FrameRead, Refusal>
     ensures { result ≡ numbered (read_load f.now) }
 {
-    if f.len() < 5 {
-        return FrameRead::Refused(Refusal::WrongLength);
-    }
-    let l = f[4] as usize;
-    if l == 0 || l > UID_MOST {
-        return FrameRead::Refused(Refusal::BadKeyUidLength);
-    }
-    if f.len() != 5 + l + KEY_SIZE {
-        return FrameRead::Refused(Refusal::WrongLength);
-    }
-    FrameRead::Load(namespace_of(f[1]), Tag(word(f, 2)), l)
+    let ToSlot { ns, tag, l } = to_slot::<KEY_SIZE>(f)?;
+    Ok(FrameRead::Load(ns, tag, l))
 }
 
-fn load_wrapped(f: &[u8]) -> FrameRead
+fn load_wrapped(f: &[u8]) -> Result<FrameRead, Refusal>
     ensures { result ≡ numbered (read_wrapped f.now) }
 {
-    if f.len() < 5 {
-        return FrameRead::Refused(Refusal::WrongLength);
-    }
-    let l = f[4] as usize;
-    if l == 0 || l > UID_MOST {
-        return FrameRead::Refused(Refusal::BadKeyUidLength);
-    }
-    if f.len() != 5 + l + WRAPPED_SIZE {
-        return FrameRead::Refused(Refusal::WrongLength);
-    }
-    FrameRead::LoadWrapped(namespace_of(f[1]), Tag(word(f, 2)), l)
+    let ToSlot { ns, tag, l } = to_slot::<WRAPPED_SIZE>(f)?;
+    Ok(FrameRead::LoadWrapped(ns, tag, l))
 }
 
-fn replace(f: &[u8]) -> FrameRead
+fn replace(f: &[u8]) -> Result<FrameRead, Refusal>
     ensures { result ≡ numbered (read_replace f.now) }
 {
-    if f.len() < 5 {
-        return FrameRead::Refused(Refusal::WrongLength);
-    }
-    let o = f[4] as usize;
-    if o == 0 || o > UID_MOST {
-        return FrameRead::Refused(Refusal::BadKeyUidLength);
-    }
+    let [_, ns, low, high, o, ..] = f else {
+        return Err(Refusal::WrongLength);
+    };
+    let o = uid_length(*o)?;
     if f.len() < 6 + o {
-        return FrameRead::Refused(Refusal::WrongLength);
+        return Err(Refusal::WrongLength);
     }
-    let l = f[5 + o] as usize;
-    if l == 0 || l > UID_MOST {
-        return FrameRead::Refused(Refusal::BadKeyUidLength);
-    }
+    let l = uid_length(f[5 + o])?;
     if f.len() != 6 + o + l + KEY_SIZE {
-        return FrameRead::Refused(Refusal::WrongLength);
+        return Err(Refusal::WrongLength);
     }
-    FrameRead::Replace(namespace_of(f[1]), Tag(word(f, 2)), o, l)
+    Ok(FrameRead::Replace(namespace_of(*ns), tag_of([*low, *high]), o, l))
 }
 
-fn clear_one(f: &[u8]) -> FrameRead
+fn clear_one(f: &[u8]) -> Result<FrameRead, Refusal>
     ensures { result ≡ numbered (exactly 4 f.now (ClearOne (namespace (byte 1 f.now)) (key_tag (bytes 2 3 f.now)))) }
 {
-    if f.len() != 4 {
-        return FrameRead::Refused(Refusal::WrongLength);
+    match f {
+        [_, ns, low, high] => Ok(FrameRead::ClearOne(namespace_of(*ns), tag_of([*low, *high]))),
+        _ => Err(Refusal::WrongLength),
     }
-    FrameRead::ClearOne(namespace_of(f[1]), Tag(word(f, 2)))
 }
 
-fn clear_all(f: &[u8]) -> FrameRead
+fn clear_all(f: &[u8]) -> Result<FrameRead, Refusal>
     ensures { result ≡ numbered (exactly 2 f.now (ClearAll (namespace (byte 1 f.now)))) }
 {
-    if f.len() != 2 {
-        return FrameRead::Refused(Refusal::WrongLength);
+    match f {
+        [_, ns] => Ok(FrameRead::ClearAll(namespace_of(*ns))),
+        _ => Err(Refusal::WrongLength),
     }
-    FrameRead::ClearAll(namespace_of(f[1]))
 }
 
-fn command(f: &[u8]) -> FrameRead
+fn io(f: &[u8]) -> Result<FrameRead, Refusal>
+    requires { 0 < length f.now }
     ensures { result ≡ numbered (exactly 65 f.now (Io (command_of (drop 1 f.now)))) }
 {
-    if f.len() != 65 {
-        return FrameRead::Refused(Refusal::WrongLength);
+    match f[1..].as_array() {
+        Some(c) => Ok(FrameRead::Io(command(c))),
+        None => Err(Refusal::WrongLength),
     }
-    FrameRead::Io(fields::command(&f[1..]))
 }
 
-fn set_features(f: &[u8]) -> FrameRead
+fn set_features(f: &[u8]) -> Result<FrameRead, Refusal>
     ensures { result ≡ numbered (exactly 5 f.now (SetFeatures (bytes 1 4 f.now))) }
 {
-    if f.len() != 5 {
-        return FrameRead::Refused(Refusal::WrongLength);
+    match f {
+        [_, a, b, c, d] => Ok(FrameRead::SetFeatures(u32::from_le_bytes([*a, *b, *c, *d]))),
+        _ => Err(Refusal::WrongLength),
     }
-    FrameRead::SetFeatures(dword(f, 1))
 }
 
-fn get_features(f: &[u8]) -> FrameRead
+fn get_features(f: &[u8]) -> Result<FrameRead, Refusal>
     ensures { result ≡ numbered (exactly 1 f.now GetFeatures) }
 {
-    if f.len() != 1 {
-        return FrameRead::Refused(Refusal::WrongLength);
+    match f {
+        [_] => Ok(FrameRead::GetFeatures),
+        _ => Err(Refusal::WrongLength),
     }
-    FrameRead::GetFeatures
 }
 
-fn boot_write(f: &[u8]) -> FrameRead
+fn boot_write(f: &[u8]) -> Result<FrameRead, Refusal>
     ensures { result ≡ numbered (exactly 2 f.now (BootWrite (byte 1 f.now))) }
 {
-    if f.len() != 2 {
-        return FrameRead::Refused(Refusal::WrongLength);
+    match f {
+        [_, partition] => Ok(FrameRead::BootWrite(*partition)),
+        _ => Err(Refusal::WrongLength),
     }
-    FrameRead::BootWrite(f[1])
 }
 
-fn reset(f: &[u8]) -> FrameRead
+fn reset(f: &[u8]) -> Result<FrameRead, Refusal>
     ensures { result ≡ numbered (exactly 2 f.now (Reset (byte 1 f.now))) }
 {
-    if f.len() != 2 {
-        return FrameRead::Refused(Refusal::WrongLength);
+    match f {
+        [_, level] => Ok(FrameRead::Reset(*level)),
+        _ => Err(Refusal::WrongLength),
     }
-    FrameRead::Reset(f[1])
 }
 
-fn discovery(f: &[u8]) -> FrameRead
+fn discovery(f: &[u8]) -> Result<FrameRead, Refusal>
     ensures { result ≡ numbered (exactly 1 f.now Discovery) }
 {
-    if f.len() != 1 {
-        return FrameRead::Refused(Refusal::WrongLength);
-    }
-    FrameRead::Discovery
-}
-
-// A KeyUID of l bytes and the key behind it, to where a load has them.
-fn place(bytes: &mut [u8], brought: &[u8], l: usize)
-    requires { (length brought.now ≡ uid_most + key_size) × (5 + uid_most + key_size ≤ length bytes.old) × (l ≤ uid_most) }
-    ensures { bytes.new ≡ write 5 (l + key_size) (take (l + key_size) brought.now) bytes.old }
-{
-    let size = l + KEY_SIZE;
-    let end = 5 + size;
-    cells::copy(&mut bytes[5..end], &brought[..size]);
-}
-
-// A message that was read: what it brings goes where a load has it.
-fn placed(bytes: &mut [u8], brought: &[u8], ns: Namespace, tag: Tag, told: MessageRead) -> FrameRead
-    requires { (length brought.now ≡ uid_most + key_size) × (5 + uid_most + key_size ≤ length bytes.old) × Short told }
-    ensures { record { read = result; frame = bytes.new } ≡ as_load ns tag brought.now bytes.old told }
-{
-    match told {
-        MessageRead::NoRoom => FrameRead::Refused(Refusal::InvalidMessage),
-        MessageRead::NoLoad => FrameRead::Refused(Refusal::InvalidMessage),
-        MessageRead::BadKeyUid => FrameRead::Refused(Refusal::InvalidMessageKeyUid),
-        MessageRead::Brings(l) => {
-            place(bytes, brought, l);
-            FrameRead::Load(ns, tag, l)
-        }
+    match f {
+        [_] => Ok(FrameRead::Discovery),
+        _ => Err(Refusal::WrongLength),
     }
 }
 
-// The message from byte 4 on, by way of bytes that are lent.
-fn through(bytes: &mut [u8], n: usize, brought: &mut [u8]) -> FrameRead
-    requires { (4 ≤ n) × (n ≤ length bytes.old) × (length brought.old ≡ uid_most + key_size)
-        × (5 + uid_most + key_size ≤ length bytes.old) }
-    ensures { record { read = result; frame = bytes.new } ≡ read_as (read_message (take n bytes.old)) bytes.old }
+// The message from byte 4 on, by way of bytes that are lent: the KeyUID and the key that it brings go to where a load has them.
+fn message(
+    frame: &mut [u8; FRAME_MOST],
+    n: usize,
+    brought: &mut [u8; BROUGHT_MOST],
+) -> Result<FrameRead, Refusal>
+    requires { n ≤ length frame.old }
+    ensures { record { read = result; frame = frame.new } ≡ read_as (read_message (take n frame.old)) frame.old }
 {
-    let ns = bytes[1];
-    let tag = word(bytes, 2);
-    let told = kmip::read(&bytes[4..n], ns as usize, tag as usize, brought);
-    placed(bytes, brought, namespace_of(ns), Tag(tag), told)
-}
-
-fn message(bytes: &mut [u8], n: usize, brought: &mut [u8]) -> FrameRead
-    requires { (n ≤ length bytes.old) × (length brought.old ≡ uid_most + key_size) × (5 + uid_most + key_size ≤ length bytes.old) }
-    ensures { record { read = result; frame = bytes.new } ≡ read_as (read_message (take n bytes.old)) bytes.old }
-{
-    if n < 4 {
-        return FrameRead::Refused(Refusal::WrongLength);
-    }
-    through(bytes, n, brought)
+    let [_, ns, low, high, message @ ..] = &frame[..n] else {
+        return Err(Refusal::WrongLength);
+    };
+    let ns = *ns;
+    let tag = u16::from_le_bytes([*low, *high]);
+    let l = kmip::read(message, usize::from(ns), usize::from(tag), brought)?;
+    let end = 5 + l + KEY_SIZE;
+    frame[5..end].copy_from_slice(&brought[..l + KEY_SIZE]);
+    Ok(FrameRead::Load(namespace_of(ns), Tag(tag), l))
 }
 
 // The first byte says which of the thirteen kinds that stay as they lie a frame is.
-fn by_kind(f: &[u8]) -> FrameRead
+fn by_kind(f: &[u8]) -> Result<FrameRead, Refusal>
     requires { (0 < length f.now) × (byte 0 f.now ≡ 13 → ⊥) }
     ensures { result ≡ numbered (read_frame f.now) }
 {
-    let kind = f[0];
-    match kind {
+    match f[0] {
         0x01 => manage(f),
         0x02 => release(f),
         0x03 => load(f),
         0x04 => replace(f),
         0x05 => clear_one(f),
         0x06 => clear_all(f),
-        0x07 => command(f),
+        0x07 => io(f),
         0x08 => set_features(f),
         0x09 => get_features(f),
         0x0A => boot_write(f),
         0x0B => reset(f),
         0x0C => discovery(f),
-        0x0D => FrameRead::Refused(Refusal::UnknownKind),
         0x0E => load_wrapped(f),
-        0x00 => FrameRead::Refused(Refusal::UnknownKind),
-        0x0F..=0xFF => FrameRead::Refused(Refusal::UnknownKind),
+        0x00 | 0x0D | 0x0F..=0xFF => Err(Refusal::UnknownKind),
     }
 }
 
 // The frame in the first n bytes.
-pub(crate) fn front(bytes: &mut [u8], n: usize, brought: &mut [u8]) -> FrameRead
-    requires { (0 < n) × (n ≤ length bytes.old) × (length brought.old ≡ uid_most + key_size) × (5 + uid_most + key_size ≤ length bytes.old) }
-    ensures { record { read = result; frame = bytes.new } ≡ read_as (read_frame (take n bytes.old)) bytes.old }
+pub(crate) fn front(
+    frame: &mut [u8; FRAME_MOST],
+    n: usize,
+    brought: &mut [u8; BROUGHT_MOST],
+) -> Result<FrameRead, Refusal>
+    requires { (0 < n) × (n ≤ length frame.old) }
+    ensures { record { read = result; frame = frame.new } ≡ read_as (read_frame (take n frame.old)) frame.old }
 {
-    if bytes[0] == 0x0D {
-        return message(bytes, n, brought);
+    if frame[0] == 0x0D {
+        return message(frame, n, brought);
     }
-    by_kind(&bytes[..n])
+    by_kind(&frame[..n])
 }

@@ -10,14 +10,13 @@ ghost use Rattle.frames.specs.Reading.{read_from};
 mod fields;
 mod kinds;
 
-use rules::{Command, FRAME_MOST, KEY_SIZE, LineRead, Namespace, Refusal, Tag, UID_MOST};
+use rules::{Command, FRAME_MOST, KEY_SIZE, Namespace, Refusal, Tag, UID_MOST};
 
 // A KeyUID and a key, as a message may bring them.
 pub const BROUGHT_MOST: usize = UID_MOST + KEY_SIZE;
 
-// A frame as it was read. A load's KeyUID lies from byte 5 on and has so many bytes; its key, clear or
-// wrapped, lies behind it. A replace's old KeyUID lies
-// from byte 5 on, the new one behind it and a length byte, the key behind that. specs/Reading.antt says what each stands for.
+// A frame as it was read. A load's KeyUID lies from byte 5 on and has so many bytes; its key, clear or wrapped, lies behind it. A replace's old
+// KeyUID lies from byte 5 on, the new one behind it and a length byte, the key behind that. specs/Reading.antt says what each stands for.
 #[derive(Clone, Copy)]
 pub enum FrameRead {
     Manage(Namespace, u8),
@@ -33,17 +32,26 @@ pub enum FrameRead {
     BootWrite(u8),
     Reset(u8),
     Discovery,
-    Refused(Refusal),
+}
+
+// What a load names: the slot, and how many bytes its KeyUID has.
+#[derive(Clone, Copy)]
+pub(crate) struct ToSlot {
+    pub ns: Namespace,
+    pub tag: Tag,
+    pub l: usize,
 }
 
 // 07 01 first, then by the kind.
-fn by_line(line: &[u8], frame: &mut [u8; FRAME_MOST], brought: &mut [u8; BROUGHT_MOST]) -> FrameRead
+fn by_line(
+    line: &[u8],
+    frame: &mut [u8; FRAME_MOST],
+    brought: &mut [u8; BROUGHT_MOST],
+) -> Result<FrameRead, Refusal>
     ensures { record { read = result; frame = frame.new } ≡ read_from line.now frame.old }
 {
-    match digits::read_line(line, frame) {
-        LineRead::Bytes(n) => kinds::front(frame, n, brought),
-        LineRead::Bad(why) => FrameRead::Refused(Refusal::NotAFrameLine(why)),
-    }
+    let n = digits::read_line(line, frame).map_err(Refusal::NotAFrameLine)?;
+    kinds::front(frame, n, brought)
 }
 
 // Reads a line into the front of the frame. What a message brings goes through bytes that are lent too, and wiped: they held a key. (Here,
@@ -52,7 +60,7 @@ pub fn read(
     line: &[u8],
     frame: &mut [u8; FRAME_MOST],
     brought: &mut [u8; BROUGHT_MOST],
-) -> FrameRead
+) -> Result<FrameRead, Refusal>
     ensures { (record { read = result; frame = frame.new } ≡ read_from line.now frame.old)
         × (brought.new ≡ zeros (uid_most + key_size)) }
 {

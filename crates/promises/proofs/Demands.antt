@@ -7,8 +7,8 @@ use mathlib.Core.Logic.{⊎_elim}
 use Prim.Native.Nat.{ℕ, suc}
 use lib.ListN.{length, take}
 use lib.Seq.{take_at}
-use Rattle.rules.specs.declared.Answer.{Answer}
-use Rattle.rules.specs.declared.Answer.TheVariants.{Done, Refused}
+use Rattle.rules.specs.Answer.{Answer}
+use Rattle.rules.specs.declared.Granted.TheVariants.{Done}
 use Rattle.rules.specs.Checks.{AllPass}
 use Rattle.rules.specs.State.{State, Outcome}
 use Rattle.rules.specs.Order.{step}
@@ -34,12 +34,12 @@ use Rattle.promises.proofs.LeavesLaws.{start_is, call_is, session_is}
 -- ------------------------------------------------------------------------
 -- A start that is not refused is a fresh drive
 
-fresh_start : (kek keys store : List ℕ) (o : Outcome) → StartLeaves kek keys store o → o.answer ≡ Done → o.state ≡ fresh kek
+fresh_start : (kek keys store : List ℕ) (o : Outcome) → StartLeaves kek keys store o → o.answer ≡ (Ok Done) → o.state ≡ fresh kek
 fresh_start kek keys store o l e =
     ⊎_elim
-    (λ f. absurd (accepted_not Done f.0 refl (sym e ∙ (rules.start_refused_when kek keys store o (start_is kek keys store o l) f.0).1 f.1.0)))
+    (λ f. absurd (accepted_not (Ok Done) f.0 refl (sym e ∙ (rules.start_refused_when kek keys store o (start_is kek keys store o l) f.0).1 f.1.0)))
     (λ p. ap (λ (x : Outcome). x.state) (rules.starts_fresh kek keys store o (start_is kek keys store o l) p.0).0)
-    (by_verdict (start_checks keys store) Refused Done)
+    (by_verdict (start_checks keys store) Err (Ok Done))
 
 -- ------------------------------------------------------------------------
 -- A session that ran: the answers that its output shows are those to its lines
@@ -50,14 +50,14 @@ more h s [] f = f
 more h s (line ∷ lines) f =
     more (record { line = line; answer = (step s line).answer } ∷ h) (step s line).state lines (one_more h s f line)
 
-module _ (s : State) (text out : List ℕ) (o : Session) (l : SessionLeaves s text out o) (ran : o.result ≡ Done) where
+module _ (s : State) (text out : List ℕ) (o : Session) (l : SessionLeaves s text out o) (ran : o.result ≡ Ok Done) where
   passed : AllPass (session_checks s text out)
   passed =
       ⊎_elim
-      (λ f. absurd (accepted_not Done f.0 refl
+      (λ f. absurd (accepted_not (Ok Done) f.0 refl
       (sym ran ∙ (rules.session_refused_when s text out o (session_is s text out o l) f.0).1 f.1.0)))
       (λ p. p.0)
-      (by_verdict (session_checks s text out) Refused Done)
+      (by_verdict (session_checks s text out) Err (Ok Done))
 
   is_ran : o ≡ all_answered s text out
   is_ran = session_is s text out o l ∙ session_ran s text out passed

@@ -10,8 +10,8 @@ use lib.ListN.{length, take, drop}
 use lib.Seq.{take_at}
 use borrow.Author.Tests.{eq-eqb, ne_eqb, le-ltb}
 use Rattle.cells.proofs.PredicatesLaws.{neither}
-use Rattle.rules.specs.declared.Answer.{Answer}
-use Rattle.rules.specs.declared.Answer.TheVariants.{Done}
+use Rattle.rules.specs.Answer.{Answer}
+use Rattle.rules.specs.declared.Granted.TheVariants.{Done}
 use Rattle.rules.specs.Numbers.{uid_most}
 use Rattle.rules.specs.Checks.{AllPass}
 use Rattle.rules.specs.Answers.{accepted, number}
@@ -87,7 +87,7 @@ module _ (h : List Event) (s : State) (led : SinceStart h s) (ns tag : ℕ) (x :
   all_pass =
       append_pass (call_checks s (room_for line) room) _ q (append_pass (reading_checks line) (frame_rule (view_of s) (frame_of line)).checks r.0 passes)
 
-  done : o.answer ≡ Done
+  done : o.answer ≡ Ok Done
   unfolding line_rule frame_rule order.load
   done = (demands.done_when s line room o l all_pass).0 ∙ ap (λ f. (frame_rule (view_of s) f).answer) r.1
 
@@ -95,7 +95,7 @@ module _ (h : List Event) (s : State) (led : SinceStart h s) (ns tag : ℕ) (x :
   unfolding order.load
   is_slot = named_slot s (demands.never_unsound h s led) (namespace ns) (key_tag tag) (is_namespace_lem (namespace ns) p.0) p.1.1.0
 
-  after : (a : Answer) (f : Frame) (older : Held) → a ≡ Done → f ≡ frames.load (namespace ns) (key_tag tag) x
+  after : (a : Answer) (f : Frame) (older : Held) → a ≡ (Ok Done) → f ≡ frames.load (namespace ns) (key_tag tag) x
       → cond (accepted a && touches (namespace ns) (key_tag tag) f) (leaves (key_encryption_key o.state) f) older ≡ holding x
   after a f older e g = rw (e, g, eq-eqb ns ns refl, eq-eqb tag tag refl) refl
 

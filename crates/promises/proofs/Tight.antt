@@ -7,7 +7,7 @@ use mathlib.Core.List.{List}
 use base.Logic.{emp, id⊢}
 use contract.Monad.{conj_l, conj_r, fact_use, fact_i}
 use Prim.Native.Nat.{ℕ}
-use Rattle.rules.specs.declared.Answer.{Answer}
+use Rattle.rules.specs.Answer.{Answer}
 use Rattle.rules.specs.declared.BootLocks.{BootLocks}
 use Rattle.rules.specs.State.{Outcome}
 use Rattle.rules.specs.Call.{Called as CallLeft}

@@ -4,7 +4,7 @@
 use Rattle.std.specs.Prelude.{◌≡◌, List, ◌++◌, ℕ, length}
 use Rattle.std.proofs.Math.Option.{none, some}
 use Rattle.cells.specs.Cells.{zeros}
-use Rattle.rules.specs.declared.Answer.TheVariants.{Done, Refused}
+use Rattle.rules.specs.declared.Granted.TheVariants.{Done}
 use Rattle.rules.specs.Numbers.{key_size, kek_size, wrapped_size}
 use Rattle.rules.specs.Answers.{07·10, number}
 use Rattle.rules.specs.AesPromises.{Bytes}
@@ -18,7 +18,7 @@ OpensWhatWasShut =
     (kek front key : List ℕ) → Bytes kek_size kek → length front ≡ length initial_value → Bytes key_size key
     → (shut : List ℕ) → WrapLeaves kek (front ++ key) shut
     → (o : CUnwrapped) → UnwrapLeaves kek shut o
-    → o ≡ record { number = number Done; bytes = initial_value ++ key }
+    → o ≡ record { number = number (Ok Done); bytes = initial_value ++ key }
 
 -- A drive with that key-encryption key opens it too: a wrapped load of it is a load of the key (`WrappedLoadsAsClear`).
 abbrev pub DriveOpensWhatWasShut : Type 0
@@ -31,7 +31,7 @@ DriveOpensWhatWasShut =
 abbrev pub NothingOfWhatStaysShut : Type 0
 NothingOfWhatStaysShut =
     (kek bytes : List ℕ) (o : CUnwrapped) → UnwrapLeaves kek bytes o
-    → unwrap kek bytes ≡ none → o ≡ record { number = number (Refused 07·10); bytes = zeros wrapped_size }
+    → unwrap kek bytes ≡ none → o ≡ record { number = number (Err 07·10); bytes = zeros wrapped_size }
 
 pub record CourierDemands : Type 0 where
   pub opens_what_was_shut : OpensWhatWasShut

@@ -5,8 +5,8 @@
 -- Assumes nothing.
 use Rattle.std.specs.Prelude.{◌≡◌, List, [], ◌∷◌, ◌++◌, ℕ, length, take}
 use Rattle.rules.specs.declared.Refusal.{Refusal}
-use Rattle.rules.specs.declared.Answer.{Answer}
-use Rattle.rules.specs.declared.Answer.TheVariants.{Done, Refused}
+use Rattle.rules.specs.Answer.{Answer}
+use Rattle.rules.specs.declared.Granted.TheVariants.{Done}
 use Rattle.rules.specs.Numbers.{kek_size}
 use Rattle.rules.specs.Checks.{AllPass, FirstToFail}
 use Rattle.rules.specs.Answers.{AllSayable}
@@ -23,7 +23,7 @@ use Rattle.promises.specs.Leaves.{StartLeaves, CallLeaves, SessionLeaves}
 
 -- the output of a session that was not refused shows just these answers, one line after another
 pub record Shows (o : Session) (answers : List Answer) : Type 0 where
-  pub ran : o.result ≡ Done
+  pub ran : o.result ≡ Ok Done
   pub sayable : AllSayable answers
   pub shown : take o.bytes o.out ≡ answer_lines answers
 
@@ -31,7 +31,7 @@ pub record Shows (o : Session) (answers : List Answer) : Type 0 where
 -- call's answer is the one that it returned; a session's are those that its output shows.
 pub data SinceStart : List Event → State → Type 0 where
   started : (kek keys store : List ℕ) → length kek ≡ kek_size
-      → (o : Outcome) → StartLeaves kek keys store o → o.answer ≡ Done → SinceStart [] o.state
+      → (o : Outcome) → StartLeaves kek keys store o → o.answer ≡ (Ok Done) → SinceStart [] o.state
   answered : (h : List Event) (s : State) → SinceStart h s
       → (line out : List ℕ) (o : Called) → CallLeaves s line out o → AllPass (call_checks s (room_for line) out)
       → SinceStart (record { line = line; answer = o.answer } ∷ h) o.state
@@ -43,7 +43,7 @@ pub data SinceStart : List Event → State → Type 0 where
       → (answers : List Answer) → Shows o answers
       → SinceStart (told (lines_of text) answers h) o.state
   no_session : (h : List Event) (s : State) → SinceStart h s
-      → (text out : List ℕ) (o : Session) → SessionLeaves s text out o → (r : Refusal) → o.result ≡ Refused r
+      → (text out : List ℕ) (o : Session) → SessionLeaves s text out o → (r : Refusal) → o.result ≡ Err r
       → SinceStart h o.state
 
 -- A line that is answered since the start, after this history and in this state: by a call, or as a line of a session, whose answer stands

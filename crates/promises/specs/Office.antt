@@ -3,7 +3,7 @@
 -- proofs/Office.antt has a proof.
 -- Assumes nothing.
 use Rattle.std.specs.Prelude.{◌≡◌, List, ◌∷◌, ℕ, ◌/◌, ◌%◌, ◌^◌, ◌≤◌, ◌<◌, length, take}
-use Rattle.rules.specs.declared.Answer.TheVariants.{Done}
+use Rattle.rules.specs.declared.Granted.TheVariants.{Done}
 use Rattle.rules.specs.Checks.{AllPass}
 use Rattle.rules.specs.Answers.{number, digits_of}
 use Rattle.rules.specs.State.{State, namespace, key_tag}
@@ -29,12 +29,12 @@ LoadsWhatWasWritten =
     (ns tag : ℕ) (x : Contents) (out : List ℕ) → ns < 2 ^ 8 → tag < 2 ^ 16 → FitKey x → AreBytes x.uid → AreBytes x.key
     → message_room ≤ length out
     → (m : CMessage) → MessageLeaves ns tag x.uid x.key out m
-    → (m.number ≡ number Done)
+    → (m.number ≡ number (Ok Done))
     × ((h : List Event) (s : State) → SinceStart h s
     → AllPass (load (view_of s) (namespace ns) (key_tag tag) x).checks
     → let line = sent ns tag (take m.bytes m.out) in
     (room : List ℕ) (o : Called) → CallLeaves s line room o → AllPass (call_checks s (room_for line) room)
-    → (o.answer ≡ Done) × ((view_of o.state).slots (namespace ns) (key_tag tag) ≡ holding x))
+    → (o.answer ≡ Ok Done) × ((view_of o.state).slots (namespace ns) (key_tag tag) ≡ holding x))
 
 pub record OfficeDemands : Type 0 where
   pub loads_what_was_written : LoadsWhatWasWritten

@@ -3,8 +3,8 @@
 -- proof of each.
 -- Assumes nothing.
 use Rattle.std.specs.Prelude.{◌≡◌, List, ℕ, length}
-use Rattle.rules.specs.declared.Answer.{Answer}
-use Rattle.rules.specs.declared.Answer.TheVariants.{Done}
+use Rattle.rules.specs.Answer.{Answer}
+use Rattle.rules.specs.declared.Granted.TheVariants.{Done}
 use Rattle.rules.specs.State.{State}
 use Rattle.rules.specs.Sessions.{Session, lines_of}
 use Rattle.rules.specs.Promises.{OfSessions, SessionKeepsKek}
@@ -13,7 +13,7 @@ use Rattle.promises.specs.Demands.{Shows}
 
 abbrev pub SessionShows : OfSessions → Type 0
 SessionShows Leaves =
-    (s : State) (text out : List ℕ) (o : Session) → Leaves s text out o → o.result ≡ Done
+    (s : State) (text out : List ℕ) (o : Session) → Leaves s text out o → o.result ≡ Ok Done
     → (answers : List Answer) × (Shows o answers × (length answers ≡ length (lines_of text)))
 
 pub record SessionDemands : Type 0 where

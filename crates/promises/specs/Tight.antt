@@ -9,7 +9,7 @@ use contract.Monad.{conj, fact}
 use contract.Lifetimes.{Lfts}
 use denote.Triple.Clauses.{Clauses, AtExit}
 use borrow.Fn.World.{World, ArgsD}
-use Rattle.rules.specs.declared.Answer.{Answer}
+use Rattle.rules.specs.Answer.{Answer}
 use Rattle.rules.specs.declared.BootLocks.{BootLocks}
 use Rattle.rules.specs.declared.LineRead.{LineRead}
 use Rattle.rules.specs.declared.DiscoveryFields.{DiscoveryFields}

@@ -7,7 +7,7 @@ use mathlib.Core.List.{List}
 use Prim.Native.Nat.{ℕ}
 use lib.ListN.{length, drop}
 use borrow.Author.Tests.{eq-eqb}
-use Rattle.rules.specs.declared.Answer.TheVariants.{Done, Refused}
+use Rattle.rules.specs.declared.Granted.TheVariants.{Done}
 use Rattle.rules.specs.Answers.{07·10, number}
 use Rattle.rules.specs.KeyWrap.{wrap, unwrap}
 use Rattle.wrap.specs.Wrapping.{wrapped_in, Opening, told, opened_in}
@@ -19,7 +19,7 @@ unfolding wrapped_in
 wrapped_by kek bytes k l = rw (eq-eqb (length kek) 32 k, eq-eqb (length bytes) 40 l)
 
 module _ (kek bytes left : List ℕ) (k : length kek ≡ 32) (l : length bytes ≡ 40) (n : ℕ) where
-  pub c_opened : ◌≡◌ {A = Opening} (record { opened = true; bytes = left }) (opened_in kek bytes) → n ≡ number Done
+  pub c_opened : ◌≡◌ {A = Opening} (record { opened = true; bytes = left }) (opened_in kek bytes) → n ≡ number (Ok Done)
       → ◌≡◌ {A = CUnwrapped} (record { number = n; bytes = left }) (c_unwrap kek bytes)
   unfolding c_unwrap
   c_opened e d =
@@ -28,7 +28,7 @@ module _ (kek bytes left : List ℕ) (k : length kek ≡ 32) (l : length bytes �
       let b = ap (λ (x : Opening). x.bytes) is ∙ o.bytes in
       (λ i. record { number = d i; bytes = b i }) ∙ sym (ap unwrapped o.is)
 
-  pub c_shut : ◌≡◌ {A = Opening} (record { opened = false; bytes = left }) (opened_in kek bytes) → n ≡ number (Refused 07·10)
+  pub c_shut : ◌≡◌ {A = Opening} (record { opened = false; bytes = left }) (opened_in kek bytes) → n ≡ number (Err 07·10)
       → ◌≡◌ {A = CUnwrapped} (record { number = n; bytes = left }) (c_unwrap kek bytes)
   unfolding c_unwrap told
   c_shut e d =

@@ -15,8 +15,8 @@ use Rattle.cells.proofs.PredicatesLaws.{or_right}
 use Rattle.rules.specs.declared.Lock.{Lock}
 use Rattle.rules.specs.declared.Lock.TheVariants.{WriteUnlocked, WriteLocked, WriteLockedUntilPowerCycle}
 use Rattle.rules.specs.declared.Refusal.{Refusal}
-use Rattle.rules.specs.declared.Answer.{Answer}
-use Rattle.rules.specs.declared.Answer.TheVariants.{Done, LockStates, Discovery, Refused}
+use Rattle.rules.specs.Answer.{Answer}
+use Rattle.rules.specs.declared.Granted.TheVariants.{Done, LockStates, Discovery}
 use Rattle.rules.specs.Numbers.{namespaces, cache_size}
 use Rattle.rules.specs.Answers.{number, refusal_number}
 use Rattle.rules.specs.State.{State, wrong_store}
@@ -107,11 +107,11 @@ stays image marks s e = (ap (saved (no_image image) image) e ∙ by (no_image im
     by false p = same_image image marks p
 
 -- an answer with a refusal's number is a refusal
-refusal : (a : Answer) (r : Refusal) → number a ≡ refusal_number r → (q : Refusal) × (a ≡ Refused q)
-refusal Done r e = absurd (some_number r e)
-refusal (LockStates dword) r e = absurd (some_number r e)
-refusal Discovery r e = absurd (some_number r e)
-refusal (Refused q) r e = (q, refl)
+refusal : (a : Answer) (r : Refusal) → number a ≡ refusal_number r → (q : Refusal) × (a ≡ Err q)
+refusal (Ok Done) r e = absurd (some_number r e)
+refusal (Ok (LockStates dword)) r e = absurd (some_number r e)
+refusal (Ok Discovery) r e = absurd (some_number r e)
+refusal (Err q) r e = (q, refl)
 
 pub line_refused_keeps_image : LineRefusedKeepsImage
 unfolding c_call
@@ -166,4 +166,4 @@ no_image_no_session image marks text out e =
     ⊎_elim
     (λ f. rw (session_unread s text out f.0 f.1.0) (refl, (refl, refl)))
     (λ p. absurd (true≢false (sym (no_image_unsound image marks e) ∙ p.0.1.1.0)))
-    (by_verdict (session_checks s text out) Refused Done)
+    (by_verdict (session_checks s text out) Err (Ok Done))

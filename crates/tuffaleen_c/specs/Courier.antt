@@ -4,7 +4,7 @@
 use Rattle.std.proofs.Math.Option.{Option, none, some}
 use Rattle.std.specs.Prelude.{List, ◌++◌, ℕ}
 use Rattle.cells.specs.Cells.{zeros}
-use Rattle.rules.specs.declared.Answer.TheVariants.{Done, Refused}
+use Rattle.rules.specs.declared.Granted.TheVariants.{Done}
 use Rattle.rules.specs.Numbers.{wrapped_size}
 use Rattle.rules.specs.Answers.{07·10, number}
 use Rattle.rules.specs.KeyWrap.{initial_value, unwrap}
@@ -14,8 +14,8 @@ pub record CUnwrapped : Type 0 where
   pub bytes : List ℕ
 
 abbrev pub unwrapped : Option (List ℕ) → CUnwrapped
-unwrapped none = record { number = number (Refused 07·10); bytes = zeros wrapped_size }
-unwrapped (some key) = record { number = number Done; bytes = initial_value ++ key }
+unwrapped none = record { number = number (Err 07·10); bytes = zeros wrapped_size }
+unwrapped (some key) = record { number = number (Ok Done); bytes = initial_value ++ key }
 
 unfoldable pub c_unwrap : List ℕ → List ℕ → CUnwrapped
 c_unwrap kek bytes = unwrapped (unwrap kek bytes)

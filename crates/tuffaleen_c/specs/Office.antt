@@ -3,18 +3,18 @@
 -- empty or too long KeyUID, and then nothing is written.
 -- Assumes nothing.
 use Rattle.std.specs.Prelude.{List, ℕ}
-use Rattle.rules.specs.declared.Answer.{Answer}
-use Rattle.rules.specs.declared.Answer.TheVariants.{Done, Refused}
+use Rattle.rules.specs.Answer.{Answer}
+use Rattle.rules.specs.declared.Granted.TheVariants.{Done}
 use Rattle.rules.specs.Answers.{07·0F, 07·17, 07·18, number}
 use Rattle.kmip.specs.declared.MessageWritten.{MessageWritten}
 use Rattle.kmip.specs.declared.MessageWritten.TheVariants.{NoRoom, NoKey, BadKeyUid, Bytes}
 use Rattle.kmip.specs.Writing.{write_message}
 
 abbrev pub message_answer : MessageWritten → Answer
-message_answer NoRoom = Refused 07·0F
-message_answer NoKey = Refused 07·17
-message_answer BadKeyUid = Refused 07·18
-message_answer (Bytes n) = Done
+message_answer NoRoom = Err 07·0F
+message_answer NoKey = Err 07·17
+message_answer BadKeyUid = Err 07·18
+message_answer (Bytes n) = Ok Done
 
 abbrev pub message_length : MessageWritten → ℕ
 message_length NoRoom = 0

@@ -23,13 +23,10 @@ const KEY_TO_WRAP: [u8; WRAPPED_SIZE] = *b"\
     \x00\x01\x02\x03\x04\x05\x06\x07\x08\x09\x0A\x0B\x0C\x0D\x0E\x0F";
 
 fn schedule(rt: &impl Print, words: &mut [u32; SCHEDULE]) {
-    let key = NIST_KEY;
-    aes::expand(&key, words);
-    let mut i = 0;
-    while i < SCHEDULE {
-        show::word(rt, words[i]);
-        show::text(rt, b"\n");
-        i += 1;
+    aes::expand(&NIST_KEY, words);
+    for w in words.iter() {
+        show::word(rt, *w);
+        show::text(rt, "\n");
     }
 }
 
@@ -37,86 +34,62 @@ fn schedule(rt: &impl Print, words: &mut [u32; SCHEDULE]) {
 fn both_ways(rt: &impl Print, key: &[u8], words: &mut [u32; SCHEDULE], block: Block) {
     let coded = aes::cipher(key, words, block);
     show::block(rt, coded);
-    show::text(rt, b" ");
+    show::text(rt, " ");
     show::block(rt, aes::inv_cipher(key, words, coded));
-    show::text(rt, b"\n");
+    show::text(rt, "\n");
+}
+
+const fn block_of(a: u32, b: u32, c: u32, d: u32) -> Block {
+    Block { a, b, c, d }
 }
 
 fn blocks(rt: &impl Print, words: &mut [u32; SCHEDULE]) {
-    let counted = COUNTED_KEY;
-    let nist = NIST_KEY;
-    both_ways(
-        rt,
-        &counted,
-        words,
-        show::block_of(0x00112233, 0x44556677, 0x8899AABB, 0xCCDDEEFF),
-    );
-    both_ways(
-        rt,
-        &nist,
-        words,
-        show::block_of(0x6BC1BEE2, 0x2E409F96, 0xE93D7E11, 0x7393172A),
-    );
-    both_ways(
-        rt,
-        &nist,
-        words,
-        show::block_of(0xAE2D8A57, 0x1E03AC9C, 0x9EB76FAC, 0x45AF8E51),
-    );
-    both_ways(
-        rt,
-        &nist,
-        words,
-        show::block_of(0x30C81C46, 0xA35CE411, 0xE5FBC119, 0x1A0A52EF),
-    );
-    both_ways(
-        rt,
-        &nist,
-        words,
-        show::block_of(0xF69F2445, 0xDF4F9B17, 0xAD2B417B, 0xE66C3710),
-    );
+    let counted = block_of(0x00112233, 0x44556677, 0x8899AABB, 0xCCDDEEFF);
+    both_ways(rt, &COUNTED_KEY, words, counted);
+    let nist = [
+        block_of(0x6BC1BEE2, 0x2E409F96, 0xE93D7E11, 0x7393172A),
+        block_of(0xAE2D8A57, 0x1E03AC9C, 0x9EB76FAC, 0x45AF8E51),
+        block_of(0x30C81C46, 0xA35CE411, 0xE5FBC119, 0x1A0A52EF),
+        block_of(0xF69F2445, 0xDF4F9B17, 0xAD2B417B, 0xE66C3710),
+    ];
+    for block in nist {
+        both_ways(rt, &NIST_KEY, words, block);
+    }
 }
 
 fn flip(bytes: &mut [u8], at: usize, bit: u8) {
-    if at < bytes.len() {
-        bytes[at] = bytes[at] ^ bit;
+    if let Some(b) = bytes.get_mut(at) {
+        *b ^= bit;
     }
 }
 
 // Whether the wrapped key, with one bit of one byte flipped, is refused.
 fn flipped(words: &mut [u32; SCHEDULE], at: usize, bit: u8) -> bool {
-    let kek = COUNTED_KEY;
     let mut bytes = KEY_TO_WRAP;
-    wrap::wrap(&kek, &mut bytes, words);
+    wrap::wrap(&COUNTED_KEY, &mut bytes, words);
     flip(&mut bytes, at, bit);
-    !wrap::unwrap(&kek, &mut bytes, words)
+    !wrap::unwrap(&COUNTED_KEY, &mut bytes, words)
 }
 
 // A sign for each of a byte's eight bits.
 fn of_byte(rt: &impl Print, words: &mut [u32; SCHEDULE], at: usize) {
-    let bits = [1u8, 2, 4, 8, 16, 32, 64, 128];
-    let mut i = 0;
-    while i < 8 {
-        show::refused(rt, flipped(words, at, bits[i]));
-        i += 1;
+    for bit in [1, 2, 4, 8, 16, 32, 64, 128] {
+        show::refused(rt, flipped(words, at, bit));
     }
 }
 
 fn flips(rt: &impl Print, words: &mut [u32; SCHEDULE]) {
-    let mut i = 0;
-    while i < WRAPPED_SIZE {
-        of_byte(rt, words, i);
-        i += 1;
+    for at in 0..WRAPPED_SIZE {
+        of_byte(rt, words, at);
     }
-    show::text(rt, b"\n");
+    show::text(rt, "\n");
 }
 
 fn wrapped(rt: &impl Print, words: &mut [u32; SCHEDULE]) {
-    let kek = COUNTED_KEY;
     let mut bytes = KEY_TO_WRAP;
-    wrap::wrap(&kek, &mut bytes, words);
+    wrap::wrap(&COUNTED_KEY, &mut bytes, words);
     show::bytes(rt, &bytes);
-    if wrap::unwrap(&kek, &mut bytes, words) {
+    if wrap::unwrap(&COUNTED_KEY, &mut bytes, words) {
         show::bytes(rt, &bytes);
     }
 }

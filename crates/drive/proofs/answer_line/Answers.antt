@@ -18,14 +18,14 @@ on_ready-requires c =
       has_room a.registers a.keys.now a.marks.now _ a.out.now _ short e,
     )
 
-pub returns-in-Refused : goal.returns-in-Refused
+pub returns-in-Err : goal.returns-in-Err
 unfolding call unanswered
-returns-in-Refused c =
+returns-in-Err c =
     let a = c.args in
     let now : State = state a.registers a.keys.now a.marks.now in
     let short = ap (ltb (length a.out.now)) c.room_for.ensures in
     shut a.registers a.keys.now a.marks.now (room_for a.line.now) a.out.now _ short
-    c.in-Refused.r (unanswered now a.out.now) (answered now a.line.now a.out.now) (sym c.in-Refused.is ∙ c.admit.ensures)
+    c.in-Err.r (unanswered now a.out.now) (answered now a.line.now a.out.now) (sym c.in-Err.is ∙ c.admit.ensures)
 
 pub returns-in-Open : goal.returns-in-Open
 unfolding call

@@ -17,13 +17,13 @@ run-requires c =
       has_room a.registers a.keys.now a.marks.now _ a.out.now _ c.need_more_than-short.ensures e,
     )
 
-pub returns-in-Refused : goal.returns-in-Refused
+pub returns-in-Err : goal.returns-in-Err
 unfolding session no_session
-returns-in-Refused c =
+returns-in-Err c =
     let a = c.args in
     let now : State = state a.registers a.keys.now a.marks.now in
     shut a.registers a.keys.now a.marks.now _ a.out.now _ c.need_more_than-short.ensures
-    c.in-Refused.r (no_session now a.out.now) (all_answered now a.text.now a.out.now) (sym c.in-Refused.is ∙ c.admit.ensures)
+    c.in-Err.r (no_session now a.out.now) (all_answered now a.text.now a.out.now) (sym c.in-Err.is ∙ c.admit.ensures)
 
 pub returns-in-Open : goal.returns-in-Open
 unfolding session

@@ -12,13 +12,13 @@ unfolding c_discovery
 returns-then-fields-lt-FIELDS_SIZE c =
     rw (lt-ltb _ _ c.if-fields-lt-FIELDS_SIZE.true, c.number.ensures)
 
-pub returns-in-Refused : goal.returns-in-Refused
-returns-in-Refused c =
+pub returns-in-Err : goal.returns-in-Err
+returns-in-Err c =
     told_refused c.args.bytes.now c.args.fields.now (omega arith) c.read-found.result c.read-found.ensures
-    c.in-Refused.refusal c.in-Refused.is c.number-in-Refused.result c.number-in-Refused.ensures
+    c.in-Err.refusal c.in-Err.is c.number-in-Err.result c.number-in-Err.ensures
 
 pub returns : goal.returns
 returns c =
-    let done = done_or_refused c.args.bytes.now c.read-found.result c.read-found.ensures (c.in_default.not-Refused 07·16) in
+    let done = done_or_refused c.args.bytes.now c.read-found.result c.read-found.ensures (c.in_default.not-Err 07·16) in
     told_numbers c.args.bytes.now c.args.fields.now (omega arith) c.read-found.result c.read-found.ensures done
     c.number-2.result c.number-2.ensures c.put.new.fields c.put.ensures

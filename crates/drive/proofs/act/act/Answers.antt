@@ -101,7 +101,7 @@ unfolding frame_rule
 returns-in-Discovery c =
     (rw c.in-Discovery.is (c.discovery.ensures _ _), refl, λ z. z)
 
-pub returns-in-Refused : goal.returns-in-Refused
+pub returns-in-Err : goal.returns-in-Err
 unfolding frame_rule
-returns-in-Refused c =
-    (rw (c.in-Refused.is, c.refused.ensures), refl, λ z. z)
+returns-in-Err c =
+    (rw (c.in-Err.is, c.refused.ensures), refl, λ z. z)

@@ -1,8 +1,8 @@
 -- `boot_write` meets its contract: the locks crate judges the same checks.
 -- Assumes nothing.
 use Rattle.std.proofs.Common.{not, ltb, [], ◌∷◌, ap, ◌∙◌}
-use Rattle.rules.specs.declared.Answer.{Answer}
-use Rattle.rules.specs.declared.Answer.TheVariants.{Done, Refused}
+use Rattle.rules.specs.Answer.{Answer}
+use Rattle.rules.specs.declared.Granted.TheVariants.{Done}
 use Rattle.rules.specs.declared.Lock.TheVariants.{WriteUnlocked}
 use Rattle.rules.specs.Checks.{◌when◌}
 use Rattle.rules.specs.Answers.{00·02, 01·1E}
@@ -23,4 +23,4 @@ returns c =
     ap left c.boot_write-answer.ensures
     ∙ judged_map
     (00·02 when ltb 1 a.partition ∷ 01·1E when not (same_lock (partition a.partition a.registers.locks) WriteUnlocked) ∷ [])
-    left Refused Done
+    left Err (Ok Done)

@@ -1,7 +1,7 @@
 -- `set_features` meets its contract: the locks crate judges the same checks.
 -- Assumes nothing.
 use Rattle.std.proofs.Common.{[], ◌∷◌, ap, ◌∙◌}
-use Rattle.rules.specs.declared.Answer.TheVariants.{Done, Refused}
+use Rattle.rules.specs.declared.Granted.TheVariants.{Done}
 use Rattle.rules.specs.Checks.{◌when◌}
 use Rattle.rules.specs.Answers.{00·02, 01·0E}
 use Rattle.rules.specs.State.{Outcome}
@@ -25,5 +25,5 @@ returns c =
     ∙ judged_map
     (00·02 when invalid_fields a.dword11 ∷ 01·0E when not_changeable a.registers.locks a.dword11 ∷ [])
     left
-    (λ r. record { answer = Refused r; locks = a.registers.locks })
-    (record { answer = Done; locks = changed a.registers.locks a.dword11 }))
+    (λ r. record { answer = Err r; locks = a.registers.locks })
+    (record { answer = Ok Done; locks = changed a.registers.locks a.dword11 }))

@@ -26,11 +26,11 @@ returns-then-not-loaded c =
     let none : empty (cell slot_width c.in-Place.at a.keys.now) ≡ true = not-false _ (sym is ∙ c.if-not-loaded.true) in
     rw none at led
 
-pub returns-in-Refused : goal.returns-in-Refused
-returns-in-Refused c =
+pub returns-in-Err : goal.returns-in-Err
+returns-in-Err c =
     let a = c.args in
-    tag_refused (state a.registers a.keys.now []) a.c a.n c.requires.1.1 c.if-c-ne1.false c.in-Refused.r
-    (sym c.in-Refused.is ∙ c.place.ensures)
+    tag_refused (state a.registers a.keys.now []) a.c a.n c.requires.1.1 c.if-c-ne1.false c.in-Err.r
+    (sym c.in-Err.is ∙ c.place.ensures)
 
 pub returns-else-not-loaded : goal.returns-else-not-loaded
 returns-else-not-loaded c =

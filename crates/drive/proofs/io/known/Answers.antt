@@ -13,11 +13,11 @@ pub at_place-requires : goal.at_place-requires
 at_place-requires c =
     (c.requires.0, c.requires.1, sym c.in-Place.is ∙ c.reach.ensures)
 
-pub returns-in-Refused : goal.returns-in-Refused
-returns-in-Refused c =
+pub returns-in-Err : goal.returns-in-Err
+returns-in-Err c =
     let a = c.args in
     rw c.refused.ensures
-    (known_leads a.registers a.keys.now a.marks.now a.c a.writes c.requires.1 (sym c.in-Refused.is ∙ c.reach.ensures))
+    (known_leads a.registers a.keys.now a.marks.now a.c a.writes c.requires.1 (sym c.in-Err.is ∙ c.reach.ensures))
 
 pub returns-in-Unmanaged : goal.returns-in-Unmanaged
 returns-in-Unmanaged c =

@@ -12,12 +12,12 @@ clear_at-requires c =
     let is : found.Place c.in-Place.place ≡ located (state a.registers [] []) a.ns a.tag = sym c.in-Place.is ∙ c.locate.ensures in
     (found_small a.registers a.keys.now [] a.ns a.tag c.in-Place.place is c.requires, cache_of a.registers a.keys.now c.requires)
 
-pub returns-in-Refused : goal.returns-in-Refused
-returns-in-Refused c =
+pub returns-in-Err : goal.returns-in-Err
+returns-in-Err c =
     λ marks.
     let a = c.args in
-    let is : found.Refused c.in-Refused.r ≡ located (state a.registers [] []) a.ns a.tag = sym c.in-Refused.is ∙ c.locate.ensures in
-    rw c.refused.ensures (clear_refused a.registers a.keys.now marks a.ns a.tag c.in-Refused.r is)
+    let is : found.Refused c.in-Err.r ≡ located (state a.registers [] []) a.ns a.tag = sym c.in-Err.is ∙ c.locate.ensures in
+    rw c.refused.ensures (clear_refused a.registers a.keys.now marks a.ns a.tag c.in-Err.r is)
 
 pub returns-in-Place : goal.returns-in-Place
 returns-in-Place c =

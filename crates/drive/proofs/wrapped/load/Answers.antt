@@ -16,12 +16,12 @@ opened-requires c =
     sym c.in-Place.is ∙ c.locate.ensures in
     (c.requires.0, c.requires.1, found_passes a.registers a.keys.now [] a.ns a.tag c.in-Place.field-0 is)
 
-pub returns-in-Refused : goal.returns-in-Refused
-returns-in-Refused c =
+pub returns-in-Err : goal.returns-in-Err
+returns-in-Err c =
     let a = c.args in
-    let is : found.Refused c.in-Refused.r ≡ located (state a.registers [] []) a.ns a.tag = sym c.in-Refused.is ∙ c.locate.ensures in (
+    let is : found.Refused c.in-Err.r ≡ located (state a.registers [] []) a.ns a.tag = sym c.in-Err.is ∙ c.locate.ensures in (
       λ marks. rw c.refused.ensures
-          (wrapped_refused a.registers a.keys.now marks a.ns a.tag (contents_at wrapped_size 5 a.l a.f.now) c.in-Refused.r is),
+          (wrapped_refused a.registers a.keys.now marks a.ns a.tag (contents_at wrapped_size 5 a.l a.f.now) c.in-Err.r is),
       refl,
       λ z. z,
     )
