@@ -4,12 +4,13 @@
 use Rattle.std.proofs.Common.{◌≡◌, ℕ, ◌+◌, ◌*◌, ◌/◌, ◌%◌, ◌<◌, ◌≤◌, Bool, true, false, cond, leb, List, [], ◌∷◌}
 use Rattle.std.proofs.Common.{◌++◌, length, get_or, take, drop, set, sym, refl, ap, ◌∙◌, append_assoc, add-one, arith, length-append}
 use Rattle.std.proofs.Common.{length-take-le, take-suc, le-leb}
+use Rattle.std.specs.Prelude.{Ok, Err}
 use mathlib.Core.Option.{Option, none, some}
 use borrow.Author.Tests.{lt-leb}
 use Rattle.cells.proofs.CellsLaws.{grow}
 use Rattle.cells.specs.Cells.{zeros}
-use Rattle.rules.specs.declared.Answer.{Answer}
-use Rattle.rules.specs.declared.Answer.TheVariants.{Discovery, Refused}
+use Rattle.rules.specs.Answer.{Answer}
+use Rattle.rules.specs.declared.Granted.TheVariants.{Discovery}
 use Rattle.rules.specs.declared.Refusal.{Refusal}
 use Rattle.rules.specs.declared.BadLine.{BadLine}
 use Rattle.rules.specs.declared.BadLine.TheVariants.{Empty, TooLong, BadDigit, Odd}
@@ -86,11 +87,11 @@ wrote_fits a out =
 -- Discovery: 0000, and the response behind it
 
 pub discovery_bytes : (f : DiscoveryFields) (x : List ℕ) → f ≡ own_fields → x ≡ (respond f (zeros discovery_size)).out
-    → answer_bytes Discovery ≡ 0 ∷ 0 ∷ (x ++ [])
+    → answer_bytes (Ok Discovery) ≡ 0 ∷ 0 ∷ (x ++ [])
 unfolding respond response header_bytes tper_bytes key_per_io_bytes own_fields own_header own_tper own_key_per_io zeros
 discovery_bytes f x is e = rw (e, is)
 
-pub discovery_length : length (answer_bytes Discovery) ≡ 2 + discovery_size
+pub discovery_length : length (answer_bytes (Ok Discovery)) ≡ 2 + discovery_size
 unfolding response header_bytes tper_bytes key_per_io_bytes own_fields own_header zeros
 discovery_length = refl
 
@@ -113,10 +114,10 @@ loud_data none e = absurd (e refl)
 loud_data (some why) e = refl
 
 module _ (r : Refusal) {n : ℕ} {t : Fault} (number : n ≡ refusal_number r) (told : t ≡ tells (fault_of r)) where
-  pub quiet_bytes : t.reason ≡ 0 → answer_bytes (Refused r) ≡ n / 256 ∷ n % 256 ∷ []
+  pub quiet_bytes : t.reason ≡ 0 → answer_bytes (Err r) ≡ n / 256 ∷ n % 256 ∷ []
   quiet_bytes e = rw (number, quiet_data (fault_of r) (sym (ap (λ (f : Fault). f.reason) told) ∙ e))
 
   pub loud_bytes : (t.reason ≡ 0 → ⊥)
-      → answer_bytes (Refused r) ≡ n / 256 ∷ n % 256 ∷ t.reason ∷ t.place % 256 ∷ t.place / 256 % 256 ∷ []
+      → answer_bytes (Err r) ≡ n / 256 ∷ n % 256 ∷ t.reason ∷ t.place % 256 ∷ t.place / 256 % 256 ∷ []
   loud_bytes e =
       rw (number, told, loud_data (fault_of r) (λ z. e (ap (λ (f : Fault). f.reason) told ∙ z)))

@@ -1,8 +1,8 @@
 -- What reading a line and writing an answer leave, with the buffers.
 -- Assumes nothing.
-use Rattle.std.specs.Prelude.{ℕ, ◌/◌, Bool, cond, not, ◌&&◌, List, ◌++◌, length, drop, ◌==◌, nat_le}
-use Rattle.rules.specs.declared.Answer.{Answer}
-use Rattle.rules.specs.declared.LineRead.{LineRead}
+use Rattle.std.specs.Prelude.{ℕ, ◌/◌, Bool, cond, not, ◌&&◌, List, ◌++◌, length, drop, ◌==◌, nat_le, Result}
+use Rattle.rules.specs.Answer.{Answer}
+use Rattle.rules.specs.declared.BadLine.{BadLine}
 use Rattle.rules.specs.Numbers.{digits_most}
 use Rattle.rules.specs.Answers.{answer_line}
 use Rattle.rules.specs.FrameLine.{decoded, read_line}
@@ -13,7 +13,7 @@ abbrev pub line_length : List ℕ → Bool
 line_length line = not (length line == 0) && nat_le (length line) digits_most
 
 pub record ReadInto : Type 0 where
-  pub read : LineRead
+  pub read : Result ℕ BadLine
   pub frame : List ℕ
 
 -- the pairs of digits at the front of the frame, the rest of it as it was

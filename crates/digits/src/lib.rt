@@ -8,27 +8,27 @@ ghost use Rattle.digits.specs.Digits.{read_into, wrote};
 mod reading;
 mod writing;
 
-use rules::{Answer, BadLine, DIGITS_MOST, FRAME_MOST, LineRead};
+use rules::{Answer, BadLine, DIGITS_MOST, FRAME_MOST, Granted};
 
 // Reads a line into the front of the frame, and says how many bytes it has or why it is no frame line. A good line is gone through once;
 // only one with a bad digit is looked through again, for its place.
-pub fn read_line(line: &[u8], frame: &mut [u8; FRAME_MOST]) -> LineRead
+pub fn read_line(line: &[u8], frame: &mut [u8; FRAME_MOST]) -> Result<usize, BadLine>
     ensures { record { read = result; frame = frame.new } ≡ read_into line.now frame.old }
 {
     let n = line.len();
     if n == 0 {
-        return LineRead::Bad(BadLine::Empty);
+        return Err(BadLine::Empty);
     }
     if n > DIGITS_MOST {
-        return LineRead::Bad(BadLine::TooLong);
+        return Err(BadLine::TooLong);
     }
     if !reading::decode(line, frame) {
-        return LineRead::Bad(BadLine::BadDigit(reading::first_bad(line)));
+        return Err(BadLine::BadDigit(reading::first_bad(line)));
     }
     if n % 2 == 1 {
-        return LineRead::Bad(BadLine::Odd);
+        return Err(BadLine::Odd);
     }
-    LineRead::Bytes(n / 2)
+    Ok(n / 2)
 }
 
 // What a refusal tells of a line: the reason, 0 for those that tell nothing, and the place.
@@ -43,10 +43,8 @@ pub fn number(answer: Answer) -> u16
     ensures { result ≡ number_of answer }
 {
     match answer {
-        Answer::Done => 0,
-        Answer::LockStates(_) => 0,
-        Answer::Discovery => 0,
-        Answer::Refused(refusal) => writing::refusal_number(refusal),
+        Ok(_) => 0,
+        Err(refusal) => u16::from(refusal),
     }
 }
 
@@ -55,11 +53,11 @@ pub fn write_answer(answer: Answer, out: &mut [u8]) -> usize
     ensures { record { bytes = result; out = out.new } ≡ wrote answer out.old }
 {
     match answer {
-        Answer::Done => {
+        Ok(Granted::Done) => {
             let bytes = [0u8, 0];
             writing::write_line(&bytes, out)
         }
-        Answer::LockStates(d) => {
+        Ok(Granted::LockStates(d)) => {
             let bytes = [
                 0u8,
                 0,
@@ -70,7 +68,7 @@ pub fn write_answer(answer: Answer, out: &mut [u8]) -> usize
             ];
             writing::write_line(&bytes, out)
         }
-        Answer::Discovery => writing::write_discovery(out),
-        Answer::Refused(refusal) => writing::write_refusal(refusal, out),
+        Ok(Granted::Discovery) => writing::write_discovery(out),
+        Err(refusal) => writing::write_refusal(refusal, out),
     }
 }

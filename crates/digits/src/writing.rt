@@ -1,49 +1,17 @@
 // Numbers of refusals, what they tell of a line, and lines of answers.
 ghost use Rattle.std.specs.Prelude.{◌≡◌, ◌*◌, ◌/◌, ◌<◌, ◌≤◌, ◌++◌, length, drop};
 ghost use Rattle.std.proofs.Math.Option.{some};
-ghost use Rattle.rules.specs.Answers.{refusal_number, fault_of, answer_bytes, digit_of, digits_of};
+ghost use Rattle.rules.specs.Answer.{Answer};
+ghost use Rattle.rules.specs.declared.Granted.{Granted};
+ghost use Rattle.rules.specs.Answers.{fault_of, answer_bytes, digit_of, digits_of};
 ghost use Rattle.digits.specs.Digits.{wrote};
 ghost use Rattle.digits.specs.Decoding.{tells};
 
 use crate::Fault;
-use rules::{Answer, BadLine, DISCOVERY_SIZE, Refusal};
+use rules::{BadLine, DISCOVERY_SIZE, Refusal};
 
 // The bytes of an answer's number.
 const NUMBER_SIZE: usize = 2;
-
-pub(crate) fn refusal_number(refusal: Refusal) -> u16
-    ensures { result ≡ refusal_number refusal }
-{
-    match refusal {
-        Refusal::InvalidOpcode => 0x0001,
-        Refusal::InvalidField => 0x0002,
-        Refusal::InvalidNamespace => 0x000B,
-        Refusal::InvalidKeyTag => 0x0025,
-        Refusal::IncorrectKey => 0x0028,
-        Refusal::BlocksOutOfRange => 0x0080,
-        Refusal::LockNotChangeable => 0x010E,
-        Refusal::BootWriteProhibited => 0x011E,
-        Refusal::NotAFrameLine(_) => 0x0701,
-        Refusal::UnknownKind => 0x0702,
-        Refusal::WrongLength => 0x0703,
-        Refusal::BadKeyUidLength => 0x0704,
-        Refusal::AlreadyManaged => 0x0705,
-        Refusal::NotManaged => 0x0706,
-        Refusal::BadTagCount => 0x0707,
-        Refusal::PoolTooSmall => 0x0708,
-        Refusal::SlotOccupied => 0x0709,
-        Refusal::SlotEmpty => 0x070A,
-        Refusal::OtherOldKeyUid => 0x070B,
-        Refusal::OtherKey => 0x070C,
-        Refusal::WrongStore => 0x070D,
-        Refusal::UnsoundState => 0x070E,
-        Refusal::OutputTooShort => 0x070F,
-        Refusal::IntegrityFailed => 0x0710,
-        Refusal::NotAResponse => 0x0716,
-        Refusal::InvalidMessage => 0x0717,
-        Refusal::InvalidMessageKeyUid => 0x0718,
-    }
-}
 
 fn fault_of(why: BadLine) -> Fault
     ensures { result ≡ tells (some why) }
@@ -148,19 +116,19 @@ pub(crate) fn write_line(bytes: &[u8], out: &mut [u8]) -> usize
 
 // Writes the line of discovery: 0000 and the response.
 pub(crate) fn write_discovery(out: &mut [u8]) -> usize
-    ensures { record { bytes = result; out = out.new } ≡ wrote Answer.Discovery out.old }
+    ensures { record { bytes = result; out = out.new } ≡ wrote (Ok Granted.Discovery) out.old }
 {
     let mut bytes = [0u8; NUMBER_SIZE + DISCOVERY_SIZE];
     let fields = discovery::own_fields();
-    discovery::write(fields, &mut bytes[NUMBER_SIZE..]);
+    let _ = discovery::write(fields, &mut bytes[NUMBER_SIZE..]);
     write_line(&bytes, out)
 }
 
 // Writes the line of a refusal: its number, and behind it what it tells of a line.
 pub(crate) fn write_refusal(refusal: Refusal, out: &mut [u8]) -> usize
-    ensures { record { bytes = result; out = out.new } ≡ wrote (Answer.Refused refusal) out.old }
+    ensures { record { bytes = result; out = out.new } ≡ wrote (Err refusal) out.old }
 {
-    let n = refusal_number(refusal);
+    let n = u16::from(refusal);
     let told = fault_in(refusal);
     let reason = told.reason;
     let place = told.place;

@@ -12,8 +12,8 @@ mod reading;
 mod writing;
 
 use rules::{
-    Answer, DISCOVERY_SIZE, Discovered, DiscoveryFields, HEADER_SIZE, LENGTH_SIZE, Refusal,
-    TPER_SIZE,
+    Answer, DISCOVERY_SIZE, Discovered, DiscoveryFields, Granted, HEADER_SIZE, LENGTH_SIZE,
+    Refusal, TPER_SIZE,
 };
 
 // Where the two features that we look for first stand, 0 where there is none; or that a feature runs past the end.
@@ -46,7 +46,7 @@ pub fn write(fields: DiscoveryFields, out: &mut [u8]) -> Answer
     ensures { record { answer = result; out = out.new } ≡ respond fields out.old }
 {
     if out.len() < DISCOVERY_SIZE {
-        return Answer::Refused(Refusal::OutputTooShort);
+        return Err(Refusal::OutputTooShort);
     }
     let header = fields.header;
     let tper = fields.tper;
@@ -57,25 +57,25 @@ pub fn write(fields: DiscoveryFields, out: &mut [u8]) -> Answer
     cells::copy(&mut out[..TPER_AT], &header_bytes);
     cells::copy(&mut out[TPER_AT..KEY_PER_IO_AT], &tper_bytes);
     cells::copy(&mut out[KEY_PER_IO_AT..DISCOVERY_SIZE], &key_per_io_bytes);
-    Answer::Done
+    Ok(Granted::Done)
 }
 
 // What a host finds in any bytes. The length is a number of 32 bits, so that its end does not wrap in 64.
-pub fn read(bytes: &[u8]) -> Discovered
+pub fn read(bytes: &[u8]) -> Result<Discovered, Refusal>
     ensures { result ≡ discovered bytes.now }
 {
     if bytes.len() < HEADER_SIZE {
-        return reading::nothing_found();
+        return Err(Refusal::NotAResponse);
     }
     let end = LENGTH_SIZE + reading::dword(bytes, 0) as usize;
     if end < HEADER_SIZE {
-        return reading::nothing_found();
+        return Err(Refusal::NotAResponse);
     }
     if bytes.len() < end {
-        return reading::nothing_found();
+        return Err(Refusal::NotAResponse);
     }
     match finding::walk(bytes, end) {
-        Walked::Places(tper, key_per_io) => reading::found(bytes, tper, key_per_io),
-        Walked::RunsPast => reading::nothing_found(),
+        Walked::Places(tper, key_per_io) => Ok(reading::found(bytes, tper, key_per_io)),
+        Walked::RunsPast => Err(Refusal::NotAResponse),
     }
 }

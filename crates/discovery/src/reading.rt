@@ -2,14 +2,13 @@
 ghost use Rattle.std.specs.Prelude.{◌≡◌, ◌+◌, ◌≤◌, length};
 ghost use Rattle.cells.specs.Cells.{part};
 ghost use Rattle.rules.specs.Numbers.{header_size, tper_size, key_per_io_size};
-ghost use Rattle.rules.specs.Answers.{07·16};
 ghost use Rattle.rules.specs.Fields.{big_endian};
-ghost use Rattle.rules.specs.Discovering.{header_from, tper_from, key_per_io_from, tper_in, key_per_io_in, nothing_found};
+ghost use Rattle.rules.specs.Discovering.{header_from, tper_from, key_per_io_from, tper_in, key_per_io_in};
 ghost use Rattle.discovery.specs.Walking.{end_from, feature_from, LiesBefore};
 
 use rules::{
-    Answer, Discovered, DiscoveryHeader, HEAD_SIZE, HEADER_SIZE, KEY_PER_IO_SIZE, KeyPerIo,
-    KeyPerIoFound, Refusal, TPER_SIZE, Tper, TperFound, VENDOR_SPECIFIC_SIZE,
+    Discovered, DiscoveryHeader, HEAD_SIZE, HEADER_SIZE, KEY_PER_IO_SIZE, KeyPerIo, TPER_SIZE,
+    Tper, VENDOR_SPECIFIC_SIZE,
 };
 
 // Two and four bytes from at, the highest first.
@@ -100,22 +99,22 @@ fn key_per_io_from(f: &[u8]) -> KeyPerIo
 }
 
 // A feature that is missing or too short is absent.
-fn tper_in(f: &[u8]) -> TperFound
+fn tper_in(f: &[u8]) -> Option<Tper>
     ensures { result ≡ tper_in f.now }
 {
     if f.len() < TPER_SIZE {
-        return TperFound::Absent;
+        return None;
     }
-    TperFound::Found(tper_from(f))
+    Some(tper_from(f))
 }
 
-fn key_per_io_in(f: &[u8]) -> KeyPerIoFound
+fn key_per_io_in(f: &[u8]) -> Option<KeyPerIo>
     ensures { result ≡ key_per_io_in f.now }
 {
     if f.len() < KEY_PER_IO_SIZE {
-        return KeyPerIoFound::Absent;
+        return None;
     }
-    KeyPerIoFound::Found(key_per_io_from(f))
+    Some(key_per_io_from(f))
 }
 
 // Where the feature at a place that was found ends; 0 for none, whose place is 0 too.
@@ -129,27 +128,11 @@ fn feature_end(d: &[u8], at: usize) -> usize
     at + HEAD_SIZE + d[at + 3] as usize
 }
 
-// 07 16, and no fields.
-pub(crate) fn nothing_found() -> Discovered
-    ensures { result ≡ nothing_found 07·16 }
-{
-    Discovered {
-        answer: Answer::Refused(Refusal::NotAResponse),
-        header: DiscoveryHeader {
-            data_structure_revision: 0,
-            vendor_specific: [0u8; VENDOR_SPECIFIC_SIZE],
-        },
-        tper: TperFound::Absent,
-        key_per_io: KeyPerIoFound::Absent,
-    }
-}
-
 // The header's fields, and the two features at their places.
 pub(crate) fn found(d: &[u8], t: usize, k: usize) -> Discovered
     requires { (header_size ≤ length d.now)
         × (LiesBefore (length d.now) d.now t × LiesBefore (length d.now) d.now k) }
     ensures { result ≡ record {
-      answer = Answer.Done;
       header = header_from d.now;
       tper = tper_in (feature_from t d.now);
       key_per_io = key_per_io_in (feature_from k d.now);
@@ -161,7 +144,6 @@ pub(crate) fn found(d: &[u8], t: usize, k: usize) -> Discovered
     let key_per_io_end = feature_end(d, k);
     let key_per_io = key_per_io_in(&d[k..key_per_io_end]);
     Discovered {
-        answer: Answer::Done,
         header,
         tper,
         key_per_io,

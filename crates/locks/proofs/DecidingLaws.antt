@@ -1,6 +1,7 @@
 -- The tests of `decided` by masks and shifts, what a field asks for, and what
 -- `decided` is where its tests are known.
 -- Assumes nothing.
+use Rattle.std.specs.Prelude.{Ok, Err}
 use mathlib.Core.Path.{◌≡◌, refl}
 use mathlib.Core.Bool.{true, false, not, ◌||◌}
 use Prim.Native.Nat.{ℕ, zero, suc, ◌<◌, ◌/◌, ◌^◌}
@@ -11,7 +12,6 @@ use borrow.Author.Tests.{ne_eqb}
 use Rattle.rules.specs.declared.Lock.{Lock}
 use Rattle.rules.specs.declared.Lock.TheVariants.{WriteLockedUntilPowerCycle}
 use Rattle.rules.specs.declared.BootLocks.{BootLocks}
-use Rattle.rules.specs.declared.Answer.TheVariants.{Done, Refused}
 use Rattle.rules.specs.Answers.{00·02, 01·0E}
 use Rattle.rules.specs.Fields.{bits}
 use Rattle.rules.specs.Locks.{field0, field1, invalid_fields, asked, asks_held, not_changeable, changed}
@@ -55,14 +55,14 @@ asks_held_rest (suc (suc (suc field))) n = ne_eqb (suc (suc (suc field))) 2 (ome
 -- The three answers
 
 module _ (locks : BootLocks) (d : ℕ) where
-  pub decided_invalid : invalid_fields d ≡ true → decided locks d ≡ record { answer = Refused 00·02; locks = locks }
+  pub decided_invalid : invalid_fields d ≡ true → decided locks d ≡ Err 00·02
   unfolding decided
   decided_invalid e = rw e
 
-  pub decided_held : invalid_fields d ≡ false → not_changeable locks d ≡ true → decided locks d ≡ record { answer = Refused 01·0E; locks = locks }
+  pub decided_held : invalid_fields d ≡ false → not_changeable locks d ≡ true → decided locks d ≡ Err 01·0E
   unfolding decided
   decided_held e f = rw (e, f)
 
-  pub decided_done : invalid_fields d ≡ false → not_changeable locks d ≡ false → decided locks d ≡ record { answer = Done; locks = changed locks d }
+  pub decided_done : invalid_fields d ≡ false → not_changeable locks d ≡ false → decided locks d ≡ Ok (changed locks d)
   unfolding decided
   decided_done e f = rw (e, f)

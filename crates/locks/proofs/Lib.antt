@@ -1,3 +1,1 @@
 pub mod DecidingLaws
-pub mod Lent
-pub mod Values

@@ -3,45 +3,29 @@
 
 ghost use Rattle.std.specs.Prelude.{◌≡◌};
 ghost use Rattle.rules.specs.Locks.{lock_value, asked as askedFor, asks_held, shown as shownIn, both_locked};
-ghost use Rattle.locks.specs.Deciding.{decided, boot_written};
+ghost use Rattle.std.specs.Result.{result_unwrap_or};
+ghost use Rattle.locks.specs.Deciding.{decided, told, boot_written};
 
-use rules::{Answer, BootLocks, Lock, Refusal};
-
-// What Set Features leaves: its answer, and the pair, changed or as it was.
-#[derive(Clone, Copy)]
-pub struct Changed {
-    pub answer: Answer,
-    pub locks: BootLocks,
-}
+use rules::{Answer, BootLocks, Granted, Lock, Refusal};
 
 // Both partitions are judged before either changes.
-pub fn decide(locks: BootLocks, dword11: u32) -> Changed
+pub fn decide(locks: BootLocks, dword11: u32) -> Result<BootLocks, Refusal>
     ensures { result ≡ decided locks dword11 }
 {
     let field0 = dword11 & 7;
     let field1 = (dword11 >> 3) & 7;
     if field0 > 3 || field1 > 3 || dword11 >> 6 != 0 {
-        return Changed {
-            answer: Answer::Refused(Refusal::InvalidField),
-            locks,
-        };
+        return Err(Refusal::InvalidField);
     }
     let lock0 = locks.partition0;
     let lock1 = locks.partition1;
     if asks_held(lock0, field0) || asks_held(lock1, field1) {
-        return Changed {
-            answer: Answer::Refused(Refusal::LockNotChangeable),
-            locks,
-        };
+        return Err(Refusal::LockNotChangeable);
     }
-    let next = BootLocks {
+    Ok(BootLocks {
         partition0: asked(lock0, field0),
         partition1: asked(lock1, field1),
-    };
-    Changed {
-        answer: Answer::Done,
-        locks: next,
-    }
+    })
 }
 
 // Whether a field asks a partition in Until Power Cycle for a different state.
@@ -92,7 +76,7 @@ pub fn boot_write(locks: BootLocks, partition: u8) -> Answer
     ensures { result ≡ boot_written locks partition }
 {
     if partition > 1 {
-        return Answer::Refused(Refusal::InvalidField);
+        return Err(Refusal::InvalidField);
     }
     let lock = if partition == 0 {
         locks.partition0
@@ -100,9 +84,9 @@ pub fn boot_write(locks: BootLocks, partition: u8) -> Answer
         locks.partition1
     };
     match lock {
-        Lock::WriteUnlocked => Answer::Done,
-        Lock::WriteLocked => Answer::Refused(Refusal::BootWriteProhibited),
-        Lock::WriteLockedUntilPowerCycle => Answer::Refused(Refusal::BootWriteProhibited),
+        Lock::WriteUnlocked => Ok(Granted::Done),
+        Lock::WriteLocked => Err(Refusal::BootWriteProhibited),
+        Lock::WriteLockedUntilPowerCycle => Err(Refusal::BootWriteProhibited),
     }
 }
 
@@ -116,23 +100,19 @@ pub fn both_locked() -> BootLocks
     }
 }
 
-// Changes the pair where it lies.
+// Changes the pair where it lies; on a refusal it stays.
 pub fn set_locks(locks: &mut BootLocks, dword11: u32) -> Answer
-    ensures { (result ≡ (decided locks.old dword11).answer) × (locks.new ≡ (decided locks.old dword11).locks) }
+    ensures { (result ≡ told (decided locks.old dword11)) × (locks.new ≡ result_unwrap_or (decided locks.old dword11) locks.old) }
 {
-    let c = decide(*locks, dword11);
-    *locks = c.locks;
-    c.answer
+    *locks = decide(*locks, dword11)?;
+    Ok(Granted::Done)
 }
 
 // Lends a pair to `set_locks`; who has the pair by value calls this and needs no walk.
-pub fn set_features(locks: BootLocks, dword11: u32) -> Changed
+pub fn set_features(locks: BootLocks, dword11: u32) -> Result<BootLocks, Refusal>
     ensures { result ≡ decided locks dword11 }
 {
     let mut pair = locks;
-    let answer = set_locks(&mut pair, dword11);
-    Changed {
-        answer,
-        locks: pair,
-    }
+    set_locks(&mut pair, dword11)?;
+    Ok(pair)
 }

@@ -3,7 +3,7 @@
 use Rattle.std.proofs.Common.{◌≡◌, ℕ, List, true, ◌/◌, ◌≤◌, length, drop, sym, ◌∙◌, arith, le-ltb, lt-ltb, eq-eqb, ne_eqb, eqb-true}
 use Rattle.std.proofs.Common.{le-leb}
 use borrow.Author.Tests.{lt-leb}
-use Rattle.rules.specs.declared.LineRead.TheVariants.{Bytes, Bad}
+use Rattle.std.specs.Prelude.{Ok, Err}
 use Rattle.rules.specs.Checks.{judged}
 use Rattle.rules.specs.FrameLine.{first_bad, line_checks, read_line}
 use Rattle.digits.specs.Digits.{read_into, framed}
@@ -24,7 +24,7 @@ returns-then-n-gt-DIGITS_MOST c =
 -- the length is good, so the last two checks decide
 decides : (line frame₀ frame : List ℕ) → (length line ≡ 0 → ⊥) → length line ≤ digits_most → frame ≡ framed line frame₀
     → read_into line frame₀
-    ≡ record { read = judged (drop 2 (line_checks line)) Bad (Bytes (length line / 2)); frame = frame }
+    ≡ record { read = judged (drop 2 (line_checks line)) Err (Ok (length line / 2)); frame = frame }
 unfolding read_into read_line line_checks
 decides line frame₀ frame some short is = simp (ne_eqb _ _ some, le-ltb _ _ short, le-leb _ _ short, is)
 
@@ -32,7 +32,7 @@ decides line frame₀ frame some short is = simp (ne_eqb _ _ some, le-ltb _ _ sh
 full : (line frame₀ frame : List ℕ) → (length line ≡ 0 → ⊥) → length line ≤ digits_most → frame ≡ framed line frame₀
     → all_digits line ≡ true
     → read_into line frame₀
-    ≡ record { read = judged (drop 3 (line_checks line)) Bad (Bytes (length line / 2)); frame = frame }
+    ≡ record { read = judged (drop 3 (line_checks line)) Err (Ok (length line / 2)); frame = frame }
 unfolding line_checks
 full line frame₀ frame some short is good =
     let h : length line ≤ first_bad line = omega (arith, eqb-true (first_bad line) (length line) good) in

@@ -1,7 +1,8 @@
 -- `discovery::read` meets its contract: the four tests in their order, then what the walk found.
 -- Assumes nothing.
+use Rattle.std.specs.Prelude.{Ok}
 use native.Mathlib.Omega.{arith}
-use mathlib.Core.Path.{◌≡◌, subst, ◌∙◌}
+use mathlib.Core.Path.{◌≡◌, ap, subst, ◌∙◌}
 use Prim.Native.Nat.{◌+◌, ◌≤◌}
 use lib.ListN.{length}
 use Rattle.rules.specs.Numbers.{length_size, header_size}
@@ -14,16 +15,15 @@ use Rattle.discovery.proofs.read.Goals as goal
 
 pub returns-then-bytes-lt-HEADER_SIZE : goal.returns-then-bytes-lt-HEADER_SIZE
 returns-then-bytes-lt-HEADER_SIZE c =
-    c.nothing_found.ensures ∙ too_short c.args.bytes.now c.if-bytes-lt-HEADER_SIZE.true
+    too_short c.args.bytes.now c.if-bytes-lt-HEADER_SIZE.true
 
 pub returns-then-end-lt-HEADER_SIZE : goal.returns-then-end-lt-HEADER_SIZE
 returns-then-end-lt-HEADER_SIZE c =
-    c.nothing_found-then-end-lt-HEADER_SIZE.ensures ∙ ends_in_header c.args.bytes.now (omega arith) (omega (arith, c.dword.ensures))
+    ends_in_header c.args.bytes.now (omega arith) (omega (arith, c.dword.ensures))
 
 pub returns-then-bytes-end : goal.returns-then-bytes-end
 returns-then-bytes-end c =
-    c.nothing_found-then-bytes-end.ensures
-    ∙ ends_past c.args.bytes.now (omega arith) (omega (arith, c.dword.ensures)) (omega (arith, c.dword.ensures))
+    ends_past c.args.bytes.now (omega arith) (omega (arith, c.dword.ensures)) (omega (arith, c.dword.ensures))
 
 pub found-requires : goal.found-requires
 found-requires c =
@@ -49,7 +49,7 @@ returns-in-Places c =
     λ r is. subst (λ n. WalkedTo c.args.bytes.now (length_size + n) r) c.dword.ensures
     (subst (λ v. WalkedTo c.args.bytes.now (length_size + c.dword.result) v) is c.walk.ensures) in
     let found = told (Places c.in-Places.tper c.in-Places.key_per_io) c.in-Places.is in
-    c.found.ensures
+    ap Ok c.found.ensures
     ∙ found_at c.args.bytes.now (omega arith) ends.0 ends.1 c.in-Places.tper c.in-Places.key_per_io found
 
 pub returns-in-RunsPast : goal.returns-in-RunsPast
@@ -59,5 +59,4 @@ returns-in-RunsPast c =
     let told : ((r : Walked) → c.walk.result ≡ r → WalkedTo c.args.bytes.now (end_of c.args.bytes.now) r) =
     λ r is. subst (λ n. WalkedTo c.args.bytes.now (length_size + n) r) c.dword.ensures
     (subst (λ v. WalkedTo c.args.bytes.now (length_size + c.dword.result) v) is c.walk.ensures) in
-    c.nothing_found-in-RunsPast.ensures
-    ∙ runs_past c.args.bytes.now (omega arith) ends.0 ends.1 (told RunsPast c.in-RunsPast.is)
+    runs_past c.args.bytes.now (omega arith) ends.0 ends.1 (told RunsPast c.in-RunsPast.is)

@@ -1,5 +1,6 @@
 -- `discovery::write` meets its contract: the three parts, one behind the other; an output that is too short stays.
 -- Assumes nothing.
+use Rattle.std.specs.Prelude.{Ok}
 use borrow.Author.Rules.{rules}
 use native.Mathlib.Omega.{arith}
 use mathlib.Core.Path.{◌≡◌, sym, ap, ◌∙◌}
@@ -7,7 +8,7 @@ use borrow.Author.Tests.{lt-ltb, le-ltb}
 use lib.ListN.{length}
 use lib.Seq.{length-take-le}
 use Rattle.cells.proofs.PartsLaws.{three_parts}
-use Rattle.rules.specs.declared.Answer.TheVariants.{Done}
+use Rattle.rules.specs.declared.Granted.TheVariants.{Done}
 use Rattle.rules.specs.Numbers.{header_size, tper_size, key_per_io_size, discovery_size}
 use Rattle.rules.specs.Discovering.{Responded, respond}
 use Rattle.discovery.proofs.WritingLaws.{responded}
@@ -32,7 +33,7 @@ returns c =
     let y = c.tper_bytes-tper_bytes.result in
     let z = c.key_per_io_bytes-key_per_io_bytes.result in
     rw (le-ltb (length out) discovery_size (omega arith))
-    (ap {B = Responded} (λ o. record { answer = Done; out = o })
+    (ap {B = Responded} (λ o. record { answer = Ok Done; out = o })
     (three_parts header_size tper_size key_per_io_size out x y z header_size_lem tper_size_lem key_per_io_size_lem (omega arith)
     c.copy.ensures c.copy-2.ensures c.copy-3.ensures
     ∙ responded c.args.fields out x y z header_size_lem tper_size_lem key_per_io_size_lem

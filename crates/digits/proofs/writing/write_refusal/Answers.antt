@@ -5,8 +5,8 @@ use Rattle.digits.proofs.writing.write_refusal.Goals as goal
 
 pub returns-then-reason-eq0 : goal.returns-then-reason-eq0
 returns-then-reason-eq0 c =
-    c.write_line.ensures _ (quiet_bytes c.args.refusal c.refusal_number-n.ensures c.fault_in-told.ensures c.if-reason-eq0.true)
+    c.write_line.ensures _ (quiet_bytes c.args.refusal c.from-n.ensures c.fault_in-told.ensures c.if-reason-eq0.true)
 
 pub returns : goal.returns
 returns c =
-    c.write_line-2.ensures _ (loud_bytes c.args.refusal c.refusal_number-n.ensures c.fault_in-told.ensures c.if-reason-eq0.false)
+    c.write_line-2.ensures _ (loud_bytes c.args.refusal c.from-n.ensures c.fault_in-told.ensures c.if-reason-eq0.false)
