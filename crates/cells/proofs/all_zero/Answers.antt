@@ -1,19 +1,16 @@
--- `cells::all_zero` meets its contract: the answer so far, and what is left of the bytes, decide.
+-- `cells::all_zero` meets its contract: the fold over all bytes.
 -- Assumes nothing.
-use native.Mathlib.Omega.{arith}
-use mathlib.Core.Path.{refl, ◌∙◌}
-use Rattle.cells.proofs.PredicatesLaws.{zero_turn, zero_end}
+use Rattle.std.proofs.Common.{rules, tests}
+use mathlib.Core.Path.{◌∙◌}
+use mathlib.Core.Bool.{true, ◌&&◌}
+use lib.Dec.{eqb}
+use Rattle.std.proofs.lemmas.Iterator.Consumers.{fold_from_yields_List}
+use Rattle.std.proofs.lemmas.Iterator.{YieldsList-from_slice}
+use Rattle.cells.proofs.PredicatesLaws.{fold_zero}
 use Rattle.cells.proofs.all_zero.Goals as goal
-
-pub loop-i-init : goal.loop-i-init
-loop-i-init c = (omega arith, refl)
-
-pub loop-i-preserved : goal.loop-i-preserved
-loop-i-preserved c =
-    let s = c.args in
-    let l = c.loop-i in
-    (omega arith, zero_turn s.a.now l.i l.zero (omega arith) ∙ l.invariant.1)
 
 pub returns : goal.returns
 returns c =
-    zero_end c.args.a.now c.loop-i.i c.loop-i.zero (omega arith) ∙ c.loop-i.invariant.1
+    fold_from_yields_List _ (λ zero x. zero && eqb x 0) true c.fold.result c.fold.ensures.ran
+    (YieldsList-from_slice c.args.a.now c.iter.ensures.rest) (λ a x b q called. search (rules, tests))
+    ∙ fold_zero true c.args.a.now

@@ -1,28 +1,21 @@
 -- `cells::zero_part` meets its contract: the part that is lent is there.
 -- Assumes nothing.
 use native.Mathlib.Omega.{arith}
-use mathlib.Core.Path.{ap, ◌∙◌}
-use Rattle.cells.proofs.CellsLaws.{within_yes, within_start, within_end, lent_length, back}
-use Rattle.cells.specs.Cells.{write, zeros, zeroed_part}
+use Rattle.cells.specs.Cells.{zeroed_part}
+use Rattle.cells.proofs.CellsLaws.{not_within, zeroed}
 use Rattle.cells.proofs.zero_part.Goals as goal
 
-pub returns-then-from-part : goal.returns-then-from-part
+pub returns-in_default : goal.returns-in_default
 unfolding zeroed_part
-returns-then-from-part c =
-    let s = c.args in
-    rw (within_start s.from s.n s.part.now c.if-from-part.true)
+returns-in_default c =
+    rw (not_within c.args.from c.args.n c.args.part.now (omega (arith, c.in_default.ensures)))
 
-pub returns-then-n-part : goal.returns-then-n-part
-unfolding zeroed_part
-returns-then-n-part c =
-    let s = c.args in
-    rw (within_end s.from s.n s.part.now (omega arith) c.if-n-part.true)
+pub returns-then-to-part : goal.returns-then-to-part
+returns-then-to-part c =
+    let to = c.in-Some.ensures in
+    zeroed c.args.from c.args.n c.in-Some.to c.args.part.now (omega (arith, to.1)) (omega arith) (c.fill.ensures.after (λ y h. h))
 
-pub returns : goal.returns
+pub returns-else-to-part : goal.returns-else-to-part
 unfolding zeroed_part
-returns c =
-    let s = c.args in
-    back s.from s.n _ s.part.now
-    ∙ ap (λ v. write s.from s.n v s.part.now)
-    (c.fill_zero.ensures ∙ ap zeros (lent_length s.from s.n s.part.now (omega arith)))
-    ∙ (rw (within_yes s.from s.n s.part.now (omega arith)))
+returns-else-to-part c =
+    rw (not_within c.args.from c.args.n c.args.part.now (omega (arith, c.in-Some.ensures.1)))
