@@ -1,28 +1,35 @@
--- A little-endian number in two parts, the low bytes and the high bytes above
--- them; and one byte.
+-- A little-endian number by its bytes, as the library reads it.
 -- Assumes nothing.
-use mathlib.Core.Path.{◌≡◌, ap, ◌∙◌}
-use mathlib.Core.List.{List, [], ◌∷◌, ◌++◌}
-use Prim.Native.Nat.{ℕ, ◌+◌, ◌*◌, ◌^◌, ◌≤◌, ◌<◌}
-use native.Mathlib.Nat.{pow-succ', mul_assoc}
-use native.Mathlib.Omega.{arith}
-use lib.ListN.{length, get_or}
+use Rattle.std.proofs.Common.{◌≡◌, ℕ, suc, ◌+◌, ◌*◌, ◌<◌, List, [], ◌∷◌, length, get_or, ap, ◌∙◌, sym, arith}
 use Rattle.cells.specs.Cells.{part}
-use Rattle.cells.proofs.CellsLaws.{part_join, part_byte, length_part}
+use Rattle.cells.proofs.CellsLaws.{part_next, part_byte}
 use Rattle.rules.specs.Fields.{little}
 
-little_append : (xs ys : List ℕ) → little (xs ++ ys) ≡ little xs + 256 ^ length xs * little ys
+-- the byte at a, and those from b on behind it
+pub little_next : (a b n : ℕ) (f : List ℕ) → a < length f → suc a ≡ b → little (part a (suc n) f) ≡ get_or f a 0 + 256 * little (part b n f)
 unfolding little
-little_append [] ys = omega arith
-little_append (x ∷ xs) ys = rw (little_append xs ys, pow-succ' 256 (length xs), mul_assoc 256 (256 ^ length xs) (little ys)) (omega arith)
+little_next a b n f h e = ap little (part_next a b n f h e)
 
-pub little_join : (a m n : ℕ) (f : List ℕ) → a + m ≤ length f
-    → little (part a (m + n) f) ≡ little (part a m f) + 256 ^ m * little (part (a + m) n f)
-little_join a m n f h =
-    ap little (part_join a m n f)
-    ∙ little_append (part a m f) (part (a + m) n f)
-    ∙ (rw (length_part a m f h))
-
-pub little_byte : (a : ℕ) (f : List ℕ) → a < length f → little (part a 1 f) ≡ get_or f a 0
+pub little_last : (a : ℕ) (f : List ℕ) → a < length f → little (part a 1 f) ≡ get_or f a 0
 unfolding little
-little_byte a f h = rw (part_byte a f h) (omega arith)
+little_last a f h = ap little (part_byte a f h) ∙ omega arith
+
+pub little_two : (a b : ℕ) → a + b * 256 ≡ little (a ∷ b ∷ [])
+unfolding little
+little_two a b = omega arith
+
+module _ (a b : ℕ) (f : List ℕ) (second : suc a ≡ b) where
+  pub pair_at : b < length f → part a 2 f ≡ get_or f a 0 ∷ get_or f b 0 ∷ []
+  pair_at h = part_next a b 1 f (omega arith) second ∙ ap (λ x. get_or f a 0 ∷ x) (part_byte b f h)
+
+  pub two_at : b < length f → get_or f a 0 + get_or f b 0 * 256 ≡ little (part a 2 f)
+  two_at h = little_two (get_or f a 0) (get_or f b 0) ∙ ap little (sym (pair_at h))
+
+  pub four_at : (c d : ℕ) → suc b ≡ c → suc c ≡ d → d < length f
+      → get_or f a 0 + get_or f b 0 * 256 + get_or f c 0 * 65536 + get_or f d 0 * 16777216 ≡ little (part a 4 f)
+  four_at c d third fourth h =
+      let p = little_next a b 3 f (omega arith) second in
+      let q = little_next b c 2 f (omega arith) third in
+      let r = little_next c d 1 f (omega arith) fourth in
+      let s = little_last d f h in
+      omega arith

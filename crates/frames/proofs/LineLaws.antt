@@ -10,8 +10,7 @@ use lib.ListN.{length, take, drop}
 use lib.Seq.{take_at}
 use lib.Dec.{eqb, ltb}
 use borrow.Author.Tests.{eqb-false, ltb-false, le-leb, ne_eqb}
-use Rattle.rules.specs.declared.LineRead.{LineRead}
-use Rattle.rules.specs.declared.LineRead.TheVariants.{Bytes, Bad}
+use Rattle.std.specs.Prelude.{Result, Ok, Err}
 use Rattle.rules.specs.declared.BadLine.{BadLine}
 use Rattle.rules.specs.declared.BadLine.TheVariants.{Empty, TooLong, BadDigit, Odd}
 use Rattle.rules.specs.Numbers.{digits_most}
@@ -24,7 +23,6 @@ use Rattle.rules.proofs.ChecksLaws.{judged_pass, judged_refusing}
 use Rattle.rules.proofs.FrameLineLaws.{is_bytes, is_frame_line}
 use Rattle.digits.specs.Digits.{ReadInto, read_into}
 use Rattle.digits.proofs.ReadingLaws.{length_decoded}
-use Rattle.frames.specs.declared.FrameRead.TheVariants.{Refused}
 use Rattle.frames.specs.Reading.{numbers_of, placed, numbered, ReadFrom, read_as, read_from}
 
 -- ------------------------------------------------------------------------
@@ -33,13 +31,13 @@ use Rattle.frames.specs.Reading.{numbers_of, placed, numbered, ReadFrom, read_as
 record Whole (line : List ℕ) : Type 0 where
   pub some : 2 ≤ length line
   pub short : length line ≤ digits_most
-  pub read : read_line line ≡ Bytes (length line / 2)
+  pub read : read_line line ≡ Ok (length line / 2)
   pub passes : AllPass (line_checks line)
 
 abbrev tests : Bool → Bool → Bool → Bool → ℕ → List (Check BadLine)
 tests none long bad odd at = Empty when none ∷ TooLong when long ∷ BadDigit at when bad ∷ Odd when odd ∷ []
 
-all_pass : (none long bad odd : Bool) (at n : ℕ) → is_bytes (judged (tests none long bad odd at) Bad (Bytes n)) ≡ true
+all_pass : (none long bad odd : Bool) (at n : ℕ) → is_bytes (judged (tests none long bad odd at) Err (Ok n)) ≡ true
     → AllPass (tests none long bad odd at)
 all_pass true long bad odd at n e = absurd (true≢false (sym e))
 all_pass false true bad odd at n e = absurd (true≢false (sym e))
@@ -57,7 +55,7 @@ whole_line line e =
     record {
       some = omega arith;
       short = ltb-false digits_most n p.1.0;
-      read = judged_pass (line_checks line) Bad (Bytes (n / 2)) p;
+      read = judged_pass (line_checks line) Err (Ok (n / 2)) p;
       passes = p;
     }
 
@@ -84,15 +82,15 @@ as_frame line f p =
     judged_refusing 07·01 (line_checks line) rest (λ why. f) (placed frame f) ∙ judged_pass (line_checks line) _ _ p in
     rw (read, left)
 
-bad_then : (v : Verdict BadLine) (n : ℕ) (why : BadLine) → settle v Bad (Bytes n) ≡ Bad why → v ≡ refused why
+bad_then : (v : Verdict BadLine) (n : ℕ) (why : BadLine) → settle v Err (Ok n) ≡ Err why → v ≡ refused why
 bad_then passed n why e = cc
 bad_then (refused w) n why e = cc
 
-abbrev bytes_in : LineRead → ℕ
-bytes_in (Bytes n) = n
-bytes_in (Bad why) = 0
+abbrev bytes_in : Result ℕ BadLine → ℕ
+bytes_in (Ok n) = n
+bytes_in (Err why) = 0
 
-module _ (line f last : List ℕ) {r : LineRead} (became : record { read = r; frame = last } ≡ read_into line f) where
+module _ (line f last : List ℕ) {r : Result ℕ BadLine} (became : record { read = r; frame = last } ≡ read_into line f) where
   read_is : r ≡ read_line line
   unfolding read_into
   read_is = ap (λ (x : ReadInto). x.read) became
@@ -101,7 +99,7 @@ module _ (line f last : List ℕ) {r : LineRead} (became : record { read = r; fr
   left = ap (λ (x : ReadInto). x.frame) became
 
   -- no frame line
-  pub not_a_line : (why : BadLine) → r ≡ Bad why → record { read = Err (07·01 why); frame = last } ≡ read_from line f
+  pub not_a_line : (why : BadLine) → r ≡ Err why → record { read = Err (07·01 why); frame = last } ≡ read_from line f
   unfolding read_from read_as numbered read_line
   not_a_line why e =
       let rest = (read_frame (decoded line)).checks in
@@ -116,7 +114,7 @@ module _ (line f last : List ℕ) {r : LineRead} (became : record { read = r; fr
       ∙ ap (λ w. settle w (λ a. came) (judged rest (λ why. came) (placed (frame_of line) came))) v in
       rw (read, stays, ← left)
 
-  module _ (n : ℕ) (e : r ≡ Bytes n) where
+  module _ (n : ℕ) (e : r ≡ Ok n) where
     whole : Whole line
     whole = whole_line line (ap is_bytes (sym read_is ∙ e))
 

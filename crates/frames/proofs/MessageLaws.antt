@@ -5,21 +5,20 @@ use mathlib.Core.Path.{◌≡◌, refl, sym, ap, ◌∙◌}
 use mathlib.Core.Bool.{Bool, true, false, cond}
 use mathlib.Core.List.{List, [], ◌∷◌, ◌++◌}
 use mathlib.Core.Option.{Option, none, some}
-use Prim.Native.Nat.{ℕ, zero, suc, ◌+◌, ◌-◌, ◌≤◌, ◌<◌}
+use Prim.Native.Nat.{ℕ, zero, suc, ◌+◌, ◌≤◌, ◌<◌}
 use native.Mathlib.Omega.{arith}
-use lib.ListN.{length, take, drop, get_or, length-append, take-append-drop, length-drop}
-use lib.Seq.{take_at, length-take-le, get_or-take}
+use lib.ListN.{length, take, drop, get_or, length-append, take-append-drop}
+use lib.Seq.{take_at, length-take-le}
 use borrow.Author.Tests.{lt-ltb, le-ltb, eqb-true, not-false}
 use Rattle.cells.specs.Cells.{part, write}
-use Rattle.cells.proofs.CellsLaws.{length_part, part_join, part_part, part_whole, copied, back}
-use Rattle.cells.proofs.CopyingLaws.{copied_to}
+use Rattle.cells.proofs.CellsLaws.{length_part, part_join, part_part}
 use Rattle.rules.specs.declared.Namespace.{Namespace}
 use Rattle.rules.specs.declared.Tag.{Tag}
 use Rattle.rules.specs.declared.Refusal.{Refusal}
 use Rattle.rules.specs.Numbers.{uid_most, key_size}
 use Rattle.rules.specs.Answers.{07·03, 07·17, 07·18}
 use Rattle.rules.specs.Checks.{Verdict, passed, refused, ◌when◌, first_refusal, settle, AllPass}
-use Rattle.rules.specs.Fields.{byte, bytes, little}
+use Rattle.rules.specs.Fields.{byte, bytes}
 use Rattle.rules.specs.State.{namespace, key_tag}
 use Rattle.rules.specs.Slots.{Contents}
 use Rattle.rules.specs.Kmip.{load_of}
@@ -27,16 +26,28 @@ use Rattle.rules.specs.Frames.{Reading, load, bad_uid_length, brings_nothing, br
 use Rattle.rules.specs.Frames.{unknown_kind, kinds, read_frame}
 use Rattle.rules.proofs.ChecksLaws.{then_pass}
 use Rattle.rules.proofs.KmipLaws.{load_key}
-use Rattle.kmip.specs.declared.MessageRead.{MessageRead}
-use Rattle.kmip.specs.declared.MessageRead.TheVariants.{BadKeyUid, Brings}
+use Rattle.std.specs.Prelude.{Result, Ok, Err}
+use Rattle.kmip.specs.declared.ReadError.{ReadError}
+use Rattle.kmip.specs.declared.ReadError.TheVariants.{BadKeyUid}
+use Rattle.kmip.specs.Refusals.{read_refusal}
 use Rattle.kmip.specs.Reading.{Told, told, read_message as read_by}
 use Rattle.kmip.proofs.ReadingLaws.{few_bytes}
 use Rattle.frames.specs.declared.FrameRead.{FrameRead}
-use Rattle.frames.specs.declared.FrameRead.TheVariants.{Refused}
-use Rattle.frames.specs.Reading.{numbered, placed, ReadFrom, read_as, as_load, Short}
+use Rattle.frames.specs.declared.FrameRead.TheVariants.{Load}
+use Rattle.frames.specs.Reading.{numbered, placed, ReadFrom, read_as}
 
 -- ------------------------------------------------------------------------
 -- A message, by what it brings
+
+-- what reading it comes to, with the bytes that it left, as a load
+abbrev pub as_load : Namespace → Tag → List ℕ → List ℕ → Result ℕ ReadError → ReadFrom
+as_load ns tag bytes f (Err e) = record { read = Err (read_refusal e); frame = f }
+as_load ns tag bytes f (Ok l) = record { read = Ok (Load ns tag l); frame = write 5 (l + key_size) (take (l + key_size) bytes) f }
+
+-- a KeyUID that was brought fits a slot
+abbrev pub Short : Result ℕ ReadError → Type 0
+Short (Err e) = Unit {0}
+Short (Ok l) = l ≤ uid_most
 
 abbrev reading : Namespace → Tag → Option Contents → Reading
 reading ns tag o = record {
@@ -61,7 +72,7 @@ module _ (ns : Namespace) (tag : Tag) (f out : List ℕ) (x : Contents) (whole :
   front : take (l + key_size) both ≡ x.uid ++ x.key
   front = take_at (x.uid ++ x.key) (drop (length x.uid + key_size) out) (length x.uid + key_size) (simp length-append (omega arith))
 
-  by_length : (bad : Bool) → loaded ns tag f (cond bad (record { result = BadKeyUid; out = out }) (record { result = Brings l; out = both }))
+  by_length : (bad : Bool) → loaded ns tag f (cond bad (record { result = Err BadKeyUid; out = out }) (record { result = Ok l; out = both }))
       ≡ read_as (record { checks = 07·03 when false ∷ 07·17 when false ∷ 07·18 when bad ∷ []; frame = load ns tag x }) f
   unfolding read_as numbered
   by_length true = refl
@@ -75,8 +86,8 @@ as_told ns tag f out (some x) k = by_length ns tag f out x (k refl) (bad_uid_len
 
 module _ (x : Contents) (out : List ℕ) where
   short_by : (bad : Bool) → bad_uid_length (length x.uid) ≡ bad
-      → Short (cond {A = Told} bad (record { result = BadKeyUid; out = out })
-      (record { result = Brings (length x.uid); out = (x.uid ++ x.key) ++ drop (length x.uid + key_size) out })).result
+      → Short (cond {A = Told} bad (record { result = Err BadKeyUid; out = out })
+      (record { result = Ok (length x.uid); out = (x.uid ++ x.key) ++ drop (length x.uid + key_size) out })).result
   short_by true e = tt
   short_by false e = few_bytes (length x.uid) e
 
@@ -103,42 +114,17 @@ module _ (d f out : List ℕ) (head : 4 ≤ length d) (size : length out ≡ uid
       rw (came_is, le-ltb (length d) 4 head)
       (as_told (namespace ns) (key_tag tag) f out (load_of ns tag (drop 4 d)) (load_key ns tag (drop 4 d)))
 
--- the fields and the message of the first n bytes
-module _ (n : ℕ) (xs : List ℕ) (head : 4 ≤ n) (h : n ≤ length xs) where
-  first_field : byte 1 (take n xs) ≡ get_or xs 1 0
-  first_field = get_or-take n xs 1 0 (omega arith)
-
-  tag_field : part 2 2 (take n xs) ≡ part 2 2 xs
-  unfolding part
-  tag_field = part_part 0 n 2 2 xs (omega arith) (omega arith)
-
-  rest : drop 4 (take n xs) ≡ take (n - 4) (drop 4 xs)
-  unfolding part
-  rest =
-      let whole : length (take n xs) ≡ n = length-take-le n xs h in
-      let all : length (drop 4 (take n xs)) ≡ n - 4 = simp length-drop (omega arith) in
-      sym (part_whole (n - 4) (drop 4 (take n xs)) all) ∙ part_part 0 n 4 (n - 4) xs (omega arith) (omega arith)
-
-  module _ (out : List ℕ) (size : length out ≡ uid_most + key_size) {ns tag : ℕ} (first : ns ≡ get_or xs 1 0) (second : tag ≡ little (part 2 2 xs))
-      {t : MessageRead} {o : List ℕ} (e : ◌≡◌ {A = Told} (record { result = t; out = o }) (read_by ns tag (take (n - 4) (drop 4 xs)) out)) where
-    abbrev lent : List ℕ
-    lent = take n xs
-
-    whole_head : 4 ≤ length lent
-    whole_head = omega (arith, length-take-le n xs h)
-
-    as_came : ◌≡◌ {A = Told} (record { result = t; out = o }) (read_by (byte 1 lent) (bytes 2 3 lent) (drop 4 lent) out)
-    as_came = rw (first_field, tag_field, rest, ← first, ← second) e
+  -- read by its fields as the code has them
+  module _ {ns tag : ℕ} {m : List ℕ} (first : ns ≡ byte 1 d) (second : tag ≡ bytes 2 3 d) (third : m ≡ drop 4 d)
+      {t : Result ℕ ReadError} {o : List ℕ} (e : ◌≡◌ {A = Told} (record { result = t; out = o }) (read_by ns tag m out)) where
+    as_came : ◌≡◌ {A = Told} (record { result = t; out = o }) came
+    as_came = rw (← first, ← second, ← third) e
 
     pub through_short : Short t
-    through_short = rw (ap (λ (w : Told). w.result) as_came) (came_short lent xs out whole_head size)
+    through_short = rw (ap (λ (w : Told). w.result) as_came) came_short
 
-    pub through_read : as_load (namespace ns) (key_tag tag) o xs t ≡ read_as (read_message lent) xs
-    through_read =
-        ap (λ (w : Told). as_load (namespace ns) (key_tag tag) w.out xs w.result) as_came
-        ∙ ap (λ k. loaded (namespace k) (key_tag tag) xs (came lent xs out whole_head size)) (first ∙ sym first_field)
-        ∙ ap (λ k. loaded (namespace (byte 1 lent)) (key_tag k) xs (came lent xs out whole_head size)) (second ∙ ap little (sym tag_field))
-        ∙ message_read lent xs out whole_head size
+    pub through_read : as_load (namespace ns) (key_tag tag) o f t ≡ read_as (read_message d) f
+    through_read = rw (first, second) (ap (λ (w : Told). as_load (namespace (byte 1 d)) (key_tag (bytes 2 3 d)) w.out f w.result) as_came ∙ message_read)
 
 pub message_short : (d f : List ℕ) → length d < 4 → record { read = Err 07·03; frame = f } ≡ read_as (read_message d) f
 unfolding read_message read_as numbered
@@ -156,18 +142,6 @@ unfolding write part
 write_same a n xs =
     ap (λ z. take a xs ++ z) (take-append-drop n (drop a xs))
     ∙ take-append-drop a xs
-
--- copied to a part that is lent from byte 5 on
-pub copied_there : (l : ℕ) (bytes xs : List ℕ) {ys : List ℕ} → length bytes ≡ uid_most + key_size → 5 + uid_most + key_size ≤ length xs
-    → l ≤ uid_most
-    → ys ≡ copied_to (take (5 + (l + key_size) - 5) (drop 5 xs)) (take (l + key_size) bytes)
-    → take 5 xs ++ (ys ++ drop (5 + (l + key_size) - 5) (drop 5 xs)) ≡ write 5 (l + key_size) (take (l + key_size) bytes) xs
-copied_there l bytes xs size room short e =
-    let end : ℕ = 5 + (l + key_size) in
-    let src : List ℕ = take (l + key_size) bytes in
-    let whole : length src ≡ l + key_size = length-take-le (l + key_size) bytes (omega arith) in
-    ap (λ ys. take 5 xs ++ (ys ++ drop (5 + (l + key_size) - 5) (drop 5 xs))) (e ∙ copied 5 end xs src (omega arith) (omega arith))
-    ∙ back 5 (l + key_size) src xs
 
 pub message_kind : (d : List ℕ) → byte 0 d ≡ 13 → read_frame d ≡ read_message d
 unfolding read_frame kinds
@@ -212,7 +186,7 @@ module _ (n : ℕ) (xs : List ℕ) (h : n ≤ length xs) where
   kind_stays (suc (suc (suc (suc (suc (suc (suc (suc (suc (suc (suc (suc (suc (suc (suc k))))))))))))))) m p = refl
 
   -- the bytes of a frame of another kind than 0D stay
-  pub others_stay : (r : FrameRead) → (byte 0 d ≡ 13 → ⊥) → r ≡ numbered (read_frame d)
+  pub others_stay : (r : Result FrameRead Refusal) → (byte 0 d ≡ 13 → ⊥) → r ≡ numbered (read_frame d)
       → record { read = r; frame = xs } ≡ read_as (read_frame d) xs
   unfolding read_as read_frame
   others_stay r m e =

@@ -27,7 +27,7 @@ use Rattle.rules.proofs.FrameLineLaws.{line_passes}
 use Rattle.rules.proofs.FramesLaws.{Fit, fits}
 use Rattle.digits.specs.Digits.{read_into}
 use Rattle.frames.specs.declared.FrameRead.{FrameRead}
-use Rattle.frames.specs.declared.FrameRead.TheVariants.{Refused}
+use Rattle.std.specs.Prelude.{Result, Err}
 use Rattle.frames.specs.Reading.{numbers_of, Meant, frame, refusal, meant, placed, numbered, ReadFrom, read_as, read_from, Lies}
 use Rattle.frames.proofs.LineLaws.{frame_of_lem}
 
@@ -127,11 +127,11 @@ same_passed : (v : Verdict Refusal) (x y : Meant) → (v ≡ passed → x ≡ y)
 same_passed passed x y h = h refl
 same_passed (refused q) x y h = refl
 
-lies_passed : (f : List ℕ) (v : Verdict Refusal) (x : FrameRead) → (v ≡ passed → Lies f x) → Lies f (settle v Err x)
+lies_passed : (f : List ℕ) (v : Verdict Refusal) (x : Result FrameRead Refusal) → (v ≡ passed → Lies f x) → Lies f (settle v Err x)
 lies_passed f passed x h = h refl
 lies_passed f (refused q) x h = tt
 
-module _ (line bytes : List ℕ) (r : FrameRead) (f : List ℕ) (room : 5 + uid_most + key_size < length f)
+module _ (line bytes : List ℕ) (r : Result FrameRead Refusal) (f : List ℕ) (room : 5 + uid_most + key_size < length f)
     (e : ◌≡◌ {A = ReadFrom} (record { read = r; frame = f }) (read_from line bytes)) where
   abbrev came : List ℕ
   came = (read_into line bytes).frame

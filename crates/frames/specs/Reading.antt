@@ -1,13 +1,11 @@
 -- A frame as the code has it: the numbers of a frame of the rules, and, with
 -- the bytes that it was read from, the frame that it stands for.
 -- Assumes nothing.
-use Rattle.std.specs.Prelude.{List, [], ◌∷◌, ℕ, ◌+◌, ◌≤◌, length, Result, Ok, Err}
+use Rattle.std.specs.Prelude.{List, [], ◌∷◌, ◌++◌, ℕ, ◌+◌, ◌≤◌, length, Result, Ok, Err}
 use Rattle.cells.specs.Cells.{part, write}
 use Rattle.rules.specs.declared.Refusal.{Refusal}
 use Rattle.rules.specs.Checks.{◌when◌, judged}
-use Rattle.rules.specs.declared.Namespace.{Namespace}
-use Rattle.rules.specs.declared.Tag.{Tag}
-use Rattle.rules.specs.Numbers.{uid_most, key_size, wrapped_size}
+use Rattle.rules.specs.Numbers.{key_size, wrapped_size}
 use Rattle.rules.specs.Answers.{07·02, 07·04}
 use Rattle.rules.specs.Slots.{FitKey, FitWrapped}
 use Rattle.rules.specs.Frames.{Frame, Reading, bad_uid_length, contents_at}

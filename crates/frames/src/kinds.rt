@@ -1,5 +1,8 @@
 // A frame's bytes by its kind: the length, then the fields.
-ghost use Rattle.std.specs.Prelude.{◌≡◌, ◌≤◌, ◌<◌, ◌+◌, length, take, drop, Ok, Err};
+ghost use Rattle.std.specs.Prelude.{◌≡◌, ◌≤◌, ◌<◌, ◌+◌, ◌≢◌, length, take, drop, Ok, Err, MatchResult};
+ghost use Rattle.rules.specs.Answers.{07·03};
+ghost use Rattle.cells.specs.Cells.{write};
+ghost use Rattle.rules.specs.Numbers.{uid_most, key_size};
 ghost use Rattle.rules.specs.Fields.{byte, bytes};
 ghost use Rattle.rules.specs.State.{namespace, key_tag};
 ghost use Rattle.rules.specs.Checks.{judged};
@@ -8,26 +11,32 @@ ghost use Rattle.rules.specs.Frames.{get_features as GetFeatures, boot_write as 
 ghost use Rattle.rules.specs.Frames.{exactly, load_checks, read_load, read_wrapped, read_replace, read_message, read_frame, command_of};
 ghost use Rattle.frames.specs.Reading.{numbered, read_as, uid_length};
 
-use crate::fields::{command, namespace_of, tag_of};
+use crate::fields::{COMMAND, command, namespace_of, tag_of};
 use crate::{BROUGHT_MOST, FrameRead, ToSlot};
 use rules::{FRAME_MOST, KEY_SIZE, Refusal, Tag, UID_MOST, WRAPPED_SIZE};
+
+// A command's frame: the kind, then the command.
+const FRAME_OF_COMMAND: usize = 1 + COMMAND;
+
+// The bytes of a frame that has to have N.
+fn exactly<const N: usize>(f: &[u8]) -> Result<&[u8; N], Refusal>
+    ensures { MatchResult result (λ bytes. (bytes.now ≡ f.now) × (length f.now ≡ N)) (λ r. (r ≡ 07·03) × (length f.now ≢ N)) }
+{
+    f.as_array().ok_or(Refusal::WrongLength)
+}
 
 fn manage(f: &[u8]) -> Result<FrameRead, Refusal>
     ensures { result ≡ numbered (exactly 3 f.now (Manage (namespace (byte 1 f.now)) (byte 2 f.now))) }
 {
-    match f {
-        [_, ns, tags] => Ok(FrameRead::Manage(namespace_of(*ns), *tags)),
-        _ => Err(Refusal::WrongLength),
-    }
+    let [_, ns, tags] = *exactly::<3>(f)?;
+    Ok(FrameRead::Manage(namespace_of(ns), tags))
 }
 
 fn release(f: &[u8]) -> Result<FrameRead, Refusal>
     ensures { result ≡ numbered (exactly 2 f.now (Release (namespace (byte 1 f.now)))) }
 {
-    match f {
-        [_, ns] => Ok(FrameRead::Release(namespace_of(*ns))),
-        _ => Err(Refusal::WrongLength),
-    }
+    let [_, ns] = *exactly::<2>(f)?;
+    Ok(FrameRead::Release(namespace_of(ns)))
 }
 
 // A KeyUID's length.
@@ -55,7 +64,7 @@ fn to_slot<const N: usize>(f: &[u8]) -> Result<ToSlot, Refusal>
     }
     Ok(ToSlot {
         ns: namespace_of(*ns),
-        tag: tag_of([*low, *high]),
+        tag: tag_of(*low, *high),
         l,
     })
 }
@@ -88,80 +97,73 @@ fn replace(f: &[u8]) -> Result<FrameRead, Refusal>
     if f.len() != 6 + o + l + KEY_SIZE {
         return Err(Refusal::WrongLength);
     }
-    Ok(FrameRead::Replace(namespace_of(*ns), tag_of([*low, *high]), o, l))
+    Ok(FrameRead::Replace(namespace_of(*ns), tag_of(*low, *high), o, l))
 }
 
 fn clear_one(f: &[u8]) -> Result<FrameRead, Refusal>
     ensures { result ≡ numbered (exactly 4 f.now (ClearOne (namespace (byte 1 f.now)) (key_tag (bytes 2 3 f.now)))) }
 {
-    match f {
-        [_, ns, low, high] => Ok(FrameRead::ClearOne(namespace_of(*ns), tag_of([*low, *high]))),
-        _ => Err(Refusal::WrongLength),
-    }
+    let [_, ns, low, high] = *exactly::<4>(f)?;
+    Ok(FrameRead::ClearOne(namespace_of(ns), tag_of(low, high)))
 }
 
 fn clear_all(f: &[u8]) -> Result<FrameRead, Refusal>
     ensures { result ≡ numbered (exactly 2 f.now (ClearAll (namespace (byte 1 f.now)))) }
 {
-    match f {
-        [_, ns] => Ok(FrameRead::ClearAll(namespace_of(*ns))),
-        _ => Err(Refusal::WrongLength),
-    }
+    let [_, ns] = *exactly::<2>(f)?;
+    Ok(FrameRead::ClearAll(namespace_of(ns)))
 }
 
 fn io(f: &[u8]) -> Result<FrameRead, Refusal>
-    requires { 0 < length f.now }
     ensures { result ≡ numbered (exactly 65 f.now (Io (command_of (drop 1 f.now)))) }
 {
-    match f[1..].as_array() {
-        Some(c) => Ok(FrameRead::Io(command(c))),
-        None => Err(Refusal::WrongLength),
-    }
+    exactly::<FRAME_OF_COMMAND>(f)?;
+    Ok(FrameRead::Io(command(&f[1..])))
 }
 
 fn set_features(f: &[u8]) -> Result<FrameRead, Refusal>
     ensures { result ≡ numbered (exactly 5 f.now (SetFeatures (bytes 1 4 f.now))) }
 {
-    match f {
-        [_, a, b, c, d] => Ok(FrameRead::SetFeatures(u32::from_le_bytes([*a, *b, *c, *d]))),
-        _ => Err(Refusal::WrongLength),
-    }
+    let [_, a, b, c, d] = *exactly::<5>(f)?;
+    Ok(FrameRead::SetFeatures(u32::from_le_bytes([a, b, c, d])))
 }
 
 fn get_features(f: &[u8]) -> Result<FrameRead, Refusal>
     ensures { result ≡ numbered (exactly 1 f.now GetFeatures) }
 {
-    match f {
-        [_] => Ok(FrameRead::GetFeatures),
-        _ => Err(Refusal::WrongLength),
-    }
+    exactly::<1>(f)?;
+    Ok(FrameRead::GetFeatures)
 }
 
 fn boot_write(f: &[u8]) -> Result<FrameRead, Refusal>
     ensures { result ≡ numbered (exactly 2 f.now (BootWrite (byte 1 f.now))) }
 {
-    match f {
-        [_, partition] => Ok(FrameRead::BootWrite(*partition)),
-        _ => Err(Refusal::WrongLength),
-    }
+    let [_, partition] = *exactly::<2>(f)?;
+    Ok(FrameRead::BootWrite(partition))
 }
 
 fn reset(f: &[u8]) -> Result<FrameRead, Refusal>
     ensures { result ≡ numbered (exactly 2 f.now (Reset (byte 1 f.now))) }
 {
-    match f {
-        [_, level] => Ok(FrameRead::Reset(*level)),
-        _ => Err(Refusal::WrongLength),
-    }
+    let [_, level] = *exactly::<2>(f)?;
+    Ok(FrameRead::Reset(level))
 }
 
 fn discovery(f: &[u8]) -> Result<FrameRead, Refusal>
     ensures { result ≡ numbered (exactly 1 f.now Discovery) }
 {
-    match f {
-        [_] => Ok(FrameRead::Discovery),
-        _ => Err(Refusal::WrongLength),
-    }
+    exactly::<1>(f)?;
+    Ok(FrameRead::Discovery)
+}
+
+// A KeyUID of l bytes and the key behind it, to where a load has them.
+fn place(frame: &mut [u8; FRAME_MOST], brought: &[u8; BROUGHT_MOST], l: usize)
+    requires { l ≤ uid_most }
+    ensures { frame.new ≡ write 5 (l + key_size) (take (l + key_size) brought.now) frame.old }
+{
+    let size = l + KEY_SIZE;
+    let end = 5 + size;
+    frame[5..end].copy_from_slice(&brought[..size]);
 }
 
 // The message from byte 4 on, by way of bytes that are lent: the KeyUID and the key that it brings go to where a load has them.
@@ -179,8 +181,7 @@ fn message(
     let ns = *ns;
     let tag = u16::from_le_bytes([*low, *high]);
     let l = kmip::read(message, usize::from(ns), usize::from(tag), brought)?;
-    let end = 5 + l + KEY_SIZE;
-    frame[5..end].copy_from_slice(&brought[..l + KEY_SIZE]);
+    place(frame, brought, l);
     Ok(FrameRead::Load(namespace_of(ns), Tag(tag), l))
 }
 
@@ -202,8 +203,10 @@ fn by_kind(f: &[u8]) -> Result<FrameRead, Refusal>
         0x0A => boot_write(f),
         0x0B => reset(f),
         0x0C => discovery(f),
+        0x0D => Err(Refusal::UnknownKind),
         0x0E => load_wrapped(f),
-        0x00 | 0x0D | 0x0F..=0xFF => Err(Refusal::UnknownKind),
+        0x00 => Err(Refusal::UnknownKind),
+        0x0F..=0xFF => Err(Refusal::UnknownKind),
     }
 }
 

@@ -50,7 +50,7 @@ fn by_line(
 ) -> Result<FrameRead, Refusal>
     ensures { record { read = result; frame = frame.new } ≡ read_from line.now frame.old }
 {
-    let n = digits::read_line(line, frame).map_err(Refusal::NotAFrameLine)?;
+    let n = digits::read_line(line, frame)?;
     kinds::front(frame, n, brought)
 }
 

@@ -18,7 +18,8 @@ use Rattle.rules.specs.Frames.{bad_uid_length}
 use Rattle.rules.specs.Ttlv.{to_eight}
 use Rattle.kmip.specs.Pieces.{before_size, between_size, before_uid, between_uid_and_key}
 use Rattle.kmip.specs.Writing.{message_room, message_bytes, Wrote, write_message, WrittenReadsBack}
-use Rattle.kmip.specs.declared.MessageWritten.TheVariants.{NoRoom, NoKey, BadKeyUid, Bytes}
+use Rattle.kmip.specs.declared.WriteError.TheVariants.{NoRoom, NoKey, BadKeyUid}
+use Rattle.std.specs.Prelude.{Result, Ok, Err}
 use Rattle.rules.proofs.KmipMessageLaws.{message_reads_back}
 use Rattle.kmip.proofs.ReadingLaws.{few_bytes, some_bytes}
 use Rattle.kmip.proofs.WritingLaws.{message_pieces}
@@ -138,31 +139,31 @@ module _ (ns tag : ℕ) (uid key out : List ℕ) (hn : ns < 256) (ht : tag < 655
 -- The writer's answers, and that what was written is read back
 
 module _ (ns tag : ℕ) (uid key out : List ℕ) where
-  pub no_room : length out < message_room → record { result = NoRoom; out = out } ≡ write_message ns tag uid key out
+  pub no_room : length out < message_room → record { result = Err NoRoom; out = out } ≡ write_message ns tag uid key out
   unfolding write_message
   no_room h = rw (lt-ltb (length out) message_room h)
 
   module _ (room : message_room ≤ length out) where
-    pub no_key : (length key ≡ key_size → ⊥) → record { result = NoKey; out = out } ≡ write_message ns tag uid key out
+    pub no_key : (length key ≡ key_size → ⊥) → record { result = Err NoKey; out = out } ≡ write_message ns tag uid key out
     unfolding write_message
     no_key h = rw (le-ltb (length out) message_room room, ne_eqb (length key) key_size h)
 
     module _ (whole : length key ≡ key_size) where
-      pub bad_uid : bad_uid_length (length uid) ≡ true → record { result = BadKeyUid; out = out } ≡ write_message ns tag uid key out
+      pub bad_uid : bad_uid_length (length uid) ≡ true → record { result = Err BadKeyUid; out = out } ≡ write_message ns tag uid key out
       unfolding write_message
       bad_uid h = rw (le-ltb (length out) message_room room, eq-eqb (length key) key_size whole, h)
 
       pub written : (n : ℕ) → bad_uid_length (length uid) ≡ false → n ≡ length (message_bytes ns tag uid key)
-          → record { result = Bytes n; out = message_bytes ns tag uid key ++ drop n out } ≡ write_message ns tag uid key out
+          → record { result = Ok n; out = message_bytes ns tag uid key ++ drop n out } ≡ write_message ns tag uid key out
       unfolding write_message
       written n h e = rw (le-ltb (length out) message_room room, eq-eqb (length key) key_size whole, h, e)
 
 -- a writing that came to bytes passed every check
 passed_all : (a b c : Bool) (message out : List ℕ) (n : ℕ)
-    → (cond {A = Wrote} a (record { result = NoRoom; out = out })
-    (cond b (record { result = NoKey; out = out })
-    (cond c (record { result = BadKeyUid; out = out })
-    (record { result = Bytes (length message); out = message ++ drop (length message) out })))).result ≡ Bytes n
+    → (cond {A = Wrote} a (record { result = Err NoRoom; out = out })
+    (cond b (record { result = Err NoKey; out = out })
+    (cond c (record { result = Err BadKeyUid; out = out })
+    (record { result = Ok (length message); out = message ++ drop (length message) out })))).result ≡ Ok n
     → (a ≡ false) × (b ≡ false) × (c ≡ false) × (n ≡ length message)
 passed_all true b c message out n e = (cc, cc, cc, cc)
 passed_all false true c message out n e = (cc, cc, cc, cc)

@@ -19,20 +19,21 @@ use Rattle.rules.specs.Slots.{Contents}
 use Rattle.rules.specs.Frames.{bad_uid_length}
 use Rattle.rules.specs.Kmip.{load_of}
 use Rattle.kmip.specs.declared.Load.{Load}
-use Rattle.kmip.specs.declared.MessageRead.TheVariants.{NoRoom, NoLoad, BadKeyUid, Brings}
+use Rattle.kmip.specs.declared.ReadError.TheVariants.{NoRoom, NoLoad, BadKeyUid}
+use Rattle.std.specs.Prelude.{Result, Ok, Err}
 use Rattle.kmip.specs.Runs.{Brought}
 use Rattle.kmip.specs.Reading.{Told, told, read_message, Requested}
 
 abbrev told_as : ℕ → List ℕ → Told
-told_as n out = record { result = Brings n; out = out }
+told_as n out = record { result = Ok n; out = out }
 
 -- a KeyUID of another length than 1 to 16, and one that fits
 module _ (x : Contents) (out : List ℕ) where
   abbrev refused : Told
-  refused = record { result = BadKeyUid; out = out }
+  refused = record { result = Err BadKeyUid; out = out }
 
   abbrev brought : Told
-  brought = record { result = Brings (length x.uid); out = (x.uid ++ x.key) ++ drop (length x.uid + key_size) out }
+  brought = record { result = Ok (length x.uid); out = (x.uid ++ x.key) ++ drop (length x.uid + key_size) out }
 
   told_bad : bad_uid_length (length x.uid) ≡ true → told (some x) out ≡ refused
   told_bad bad = ap (λ b. cond b refused brought) bad
@@ -47,7 +48,7 @@ pub some_bytes : (n : ℕ) → bad_uid_length n ≡ false → 0 < n
 some_bytes n good = let z : n ≡ 0 → ⊥ = eqb-false n 0 (or_left (eqb n 0) (ltb uid_most n) good) in omega arith
 
 module _ (ns tag : ℕ) (xs out : List ℕ) where
-  pub no_room : length out < uid_most + key_size → read_message ns tag xs out ≡ record { result = NoRoom; out = out }
+  pub no_room : length out < uid_most + key_size → read_message ns tag xs out ≡ record { result = Err NoRoom; out = out }
   unfolding read_message
   no_room short = rw (lt-ltb (length out) (uid_most + key_size) short)
 
@@ -56,7 +57,7 @@ module _ (ns tag : ℕ) (xs out : List ℕ) where
     unfolding read_message
     with_room = rw (le-ltb (length out) (uid_most + key_size) room)
 
-    pub no_load : l.good ≡ false → read_message ns tag xs out ≡ record { result = NoLoad; out = out }
+    pub no_load : l.good ≡ false → read_message ns tag xs out ≡ record { result = Err NoLoad; out = out }
     no_load bad = with_room ∙ ap (λ o. told o out) (q.fails bad)
 
     module _ (ok : l.good ≡ true) where
@@ -82,7 +83,7 @@ module _ (ns tag : ℕ) (xs out : List ℕ) where
       by_load : read_message ns tag xs out ≡ told (some (q.passes ok).0) out
       by_load = with_room ∙ ap (λ o. told o out) (q.passes ok).1
 
-      pub bad_uid : bad_uid_length l.length ≡ true → read_message ns tag xs out ≡ record { result = BadKeyUid; out = out }
+      pub bad_uid : bad_uid_length l.length ≡ true → read_message ns tag xs out ≡ record { result = Err BadKeyUid; out = out }
       bad_uid bad = by_load ∙ told_bad (q.passes ok).0 out (ap bad_uid_length uid_length_lem ∙ bad)
 
       -- both copied, one behind the other
@@ -104,7 +105,7 @@ module _ (ns tag : ℕ) (xs out : List ℕ) where
               ap (λ j. take n one ++ (v ++ drop j (drop n one))) k
               ∙ two_parts n key_size 0 out (part l.uid n xs) (part l.key key_size xs) [] lu lk refl (omega arith) e' f'
 
-          pub brings : record { result = Brings n; out = take n one ++ (v ++ drop (n + key_size - n) (drop n one)) } ≡ read_message ns tag xs out
+          pub brings : record { result = Ok n; out = take n one ++ (v ++ drop (n + key_size - n) (drop n one)) } ≡ read_message ns tag xs out
           brings =
               let b = there in
               let whole : List ℕ = ((q.passes ok).0.uid ++ (q.passes ok).0.key) ++ drop (length (q.passes ok).0.uid + key_size) out in

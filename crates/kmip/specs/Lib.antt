@@ -3,3 +3,4 @@ pub mod Attributing
 pub mod Reading
 pub mod Pieces
 pub mod Writing
+pub mod Refusals

@@ -8,25 +8,26 @@ use Rattle.rules.specs.Slots.{Contents}
 use Rattle.rules.specs.Frames.{bad_uid_length}
 use Rattle.rules.specs.Kmip.{load_of}
 use Rattle.kmip.specs.declared.Load.{Load}
-use Rattle.kmip.specs.declared.MessageRead.{MessageRead}
-use Rattle.kmip.specs.declared.MessageRead.TheVariants.{NoRoom, NoLoad, BadKeyUid, Brings}
+use Rattle.kmip.specs.declared.ReadError.{ReadError}
+use Rattle.kmip.specs.declared.ReadError.TheVariants.{NoRoom, NoLoad, BadKeyUid}
+use Rattle.std.specs.Prelude.{Result, Ok, Err}
 use Rattle.kmip.specs.Runs.{Brought}
 
 pub record Told : Type 0 where
-  pub result : MessageRead
+  pub result : Result ℕ ReadError
   pub out : List ℕ
 
 -- nothing is 07 17, and then an empty or too long KeyUID 07 18
 abbrev pub told : Option Contents → List ℕ → Told
-told none out = record { result = NoLoad; out = out }
+told none out = record { result = Err NoLoad; out = out }
 told (some x) out =
     cond (bad_uid_length (length x.uid))
-    (record { result = BadKeyUid; out = out })
-    (record { result = Brings (length x.uid); out = (x.uid ++ x.key) ++ drop (length x.uid + key_size) out })
+    (record { result = Err BadKeyUid; out = out })
+    (record { result = Ok (length x.uid); out = (x.uid ++ x.key) ++ drop (length x.uid + key_size) out })
 
 unfoldable pub read_message : ℕ → ℕ → List ℕ → List ℕ → Told
 read_message ns tag message out =
-    cond (ltb (length out) (uid_most + key_size)) (record { result = NoRoom; out = out }) (told (load_of ns tag message) out)
+    cond (ltb (length out) (uid_most + key_size)) (record { result = Err NoRoom; out = out }) (told (load_of ns tag message) out)
 
 -- a whole message was read: it brings nothing, or what stands where it was found
 pub record Requested (xs : List ℕ) (ns tag : ℕ) (r : Load) : Type 0 where

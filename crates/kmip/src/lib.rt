@@ -9,6 +9,7 @@ mod attributes;
 mod keys;
 mod members;
 mod message;
+mod refusals;
 mod rows;
 mod writing;
 
@@ -70,39 +71,35 @@ pub(crate) struct Load {
     pub key: usize,
 }
 
-// What a message comes to: no room for what it may bring, 07 17, 07 18, or a KeyUID of so many bytes and a key.
-#[derive(Clone, Copy)]
-pub enum MessageRead {
+#[derive(Clone, Copy, Debug, PartialEq, Eq)]
+pub enum ReadError {
     NoRoom,
     NoLoad,
     BadKeyUid,
-    Brings(usize),
 }
 
-// What writing a message comes to: no room, a key of other than 32 bytes, a KeyUID that is empty or too long, or so many bytes.
-#[derive(Clone, Copy)]
-pub enum MessageWritten {
+#[derive(Clone, Copy, Debug, PartialEq, Eq)]
+pub enum WriteError {
     NoRoom,
     NoKey,
     BadKeyUid,
-    Bytes(usize),
 }
 
 // The KeyUID and behind it the key that a message brings to a namespace and a tag, at the front of the output. Where it brings none the
 // output stays.
-pub fn read(bytes: &[u8], ns: usize, tag: usize, out: &mut [u8]) -> MessageRead
+pub fn read(bytes: &[u8], ns: usize, tag: usize, out: &mut [u8]) -> Result<usize, ReadError>
     ensures { record { result = result; out = out.new } ≡ read_message ns tag bytes.now out.old }
 {
     if out.len() < UID_MOST + KEY_SIZE {
-        return MessageRead::NoRoom;
+        return Err(ReadError::NoRoom);
     }
     let l = request(bytes, ns, tag);
     if !l.good {
-        return MessageRead::NoLoad;
+        return Err(ReadError::NoLoad);
     }
     let n = l.length;
     if (n == 0) | (n > UID_MOST) {
-        return MessageRead::BadKeyUid;
+        return Err(ReadError::BadKeyUid);
     }
     let uid = l.uid;
     let uid_end = uid + n;
@@ -111,24 +108,24 @@ pub fn read(bytes: &[u8], ns: usize, tag: usize, out: &mut [u8]) -> MessageRead
     let end = n + KEY_SIZE;
     cells::copy(&mut out[..n], &bytes[uid..uid_end]);
     cells::copy(&mut out[n..end], &bytes[key..key_end]);
-    MessageRead::Brings(n)
+    Ok(n)
 }
 
 // The message of a load of this KeyUID and key to a namespace and a tag, at the front of the output. What is refused leaves the output as
 // it was.
-pub fn write(ns: u8, tag: u16, uid: &[u8], key: &[u8], out: &mut [u8]) -> MessageWritten
+pub fn write(ns: u8, tag: u16, uid: &[u8], key: &[u8], out: &mut [u8]) -> Result<usize, WriteError>
     ensures { record { result = result; out = out.new } ≡ write_message ns tag uid.now key.now out.old }
 {
     if out.len() < MESSAGE_ROOM {
-        return MessageWritten::NoRoom;
+        return Err(WriteError::NoRoom);
     }
     if key.len() != KEY_SIZE {
-        return MessageWritten::NoKey;
+        return Err(WriteError::NoKey);
     }
     let l = uid.len();
     if (l == 0) | (l > UID_MOST) {
-        return MessageWritten::BadKeyUid;
+        return Err(WriteError::BadKeyUid);
     }
     let n = lay(ns, tag, uid, key, out);
-    MessageWritten::Bytes(n)
+    Ok(n)
 }

@@ -1,12 +1,13 @@
 -- `boot_write` meets its contract: the length, then the fields.
 -- Assumes nothing.
-use Rattle.frames.proofs.KindsLaws.{wrong_length_lem, right_length}
+use Rattle.std.proofs.lemmas.Result.{err_from_is_err_and}
+use Rattle.frames.proofs.KindsLaws.{right_length, short_of}
 use Rattle.frames.proofs.kinds.boot_write.Goals as goal
 
-pub returns-then-f-ne2 : goal.returns-then-f-ne2
-returns-then-f-ne2 c =
-    wrong_length_lem 2 c.args.f.now _ c.if-f-ne2.true
+pub returns-in_err-partition : goal.returns-in_err-partition
+returns-in_err-partition c =
+    short_of 2 c.args.f.now _ (err_from_is_err_and _ c.from_residual.ensures.1) c.in_err-partition.ensures
 
 pub returns : goal.returns
 returns c =
-    right_length 2 c.args.f.now _ c.if-f-ne2.false
+    rw c.in_ok-partition.ensures.0 (right_length 2 c.args.f.now _ c.in_ok-partition.ensures.1)

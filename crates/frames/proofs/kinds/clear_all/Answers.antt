@@ -1,12 +1,13 @@
 -- `clear_all` meets its contract: the length, then the fields.
 -- Assumes nothing.
-use Rattle.frames.proofs.KindsLaws.{wrong_length_lem, right_length}
+use Rattle.std.proofs.lemmas.Result.{err_from_is_err_and}
+use Rattle.frames.proofs.KindsLaws.{right_length, short_of}
 use Rattle.frames.proofs.kinds.clear_all.Goals as goal
 
-pub returns-then-f-ne2 : goal.returns-then-f-ne2
-returns-then-f-ne2 c =
-    wrong_length_lem 2 c.args.f.now _ c.if-f-ne2.true
+pub returns-in_err-ns : goal.returns-in_err-ns
+returns-in_err-ns c =
+    short_of 2 c.args.f.now _ (err_from_is_err_and _ c.from_residual.ensures.1) c.in_err-ns.ensures
 
 pub returns : goal.returns
 returns c =
-    rw c.namespace_of.ensures (right_length 2 c.args.f.now _ c.if-f-ne2.false)
+    rw (c.namespace_of.ensures, c.in_ok-ns.ensures.0) (right_length 2 c.args.f.now _ c.in_ok-ns.ensures.1)

@@ -1,12 +1,17 @@
 -- `clear_one` meets its contract: the length, then the fields.
 -- Assumes nothing.
-use Rattle.frames.proofs.KindsLaws.{wrong_length_lem, right_length}
+use Rattle.std.proofs.lemmas.Result.{err_from_is_err_and}
+use Rattle.std.proofs.Common.{refl, arith}
+use Rattle.frames.proofs.FieldsLaws.{pair_at}
+use Rattle.frames.proofs.KindsLaws.{right_length, short_of}
 use Rattle.frames.proofs.kinds.clear_one.Goals as goal
 
-pub returns-then-f-ne4 : goal.returns-then-f-ne4
-returns-then-f-ne4 c =
-    wrong_length_lem 4 c.args.f.now _ c.if-f-ne4.true
+pub returns-in_err-ns : goal.returns-in_err-ns
+returns-in_err-ns c =
+    short_of 4 c.args.f.now _ (err_from_is_err_and _ c.from_residual.ensures.1) c.in_err-ns.ensures
 
 pub returns : goal.returns
 returns c =
-    rw (c.namespace_of.ensures, c.word.ensures) (right_length 4 c.args.f.now _ c.if-f-ne4.false)
+    let f = c.args.f.now in
+    let size = c.in_ok-ns.ensures.1 in
+    rw (c.namespace_of.ensures, c.tag_of.ensures, c.in_ok-ns.ensures.0, ← pair_at 2 3 f refl (omega arith)) (right_length 4 f _ size)

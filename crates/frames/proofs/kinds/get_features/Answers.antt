@@ -1,12 +1,13 @@
 -- `get_features` meets its contract: the length, then the fields.
 -- Assumes nothing.
-use Rattle.frames.proofs.KindsLaws.{wrong_length_lem, right_length}
+use Rattle.std.proofs.lemmas.Result.{err_from_is_err_and}
+use Rattle.frames.proofs.KindsLaws.{right_length, short_of}
 use Rattle.frames.proofs.kinds.get_features.Goals as goal
 
-pub returns-then-f-ne1 : goal.returns-then-f-ne1
-returns-then-f-ne1 c =
-    wrong_length_lem 1 c.args.f.now _ c.if-f-ne1.true
+pub returns-in_err-exactly : goal.returns-in_err-exactly
+returns-in_err-exactly c =
+    short_of 1 c.args.f.now _ (err_from_is_err_and _ c.from_residual.ensures.1) c.in_err-exactly.ensures
 
 pub returns : goal.returns
 returns c =
-    right_length 1 c.args.f.now _ c.if-f-ne1.false
+    right_length 1 c.args.f.now _ c.in_ok-exactly.ensures.1

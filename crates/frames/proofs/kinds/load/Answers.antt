@@ -1,48 +1,32 @@
--- `load` meets its contract: each return is one of the reading's tests. `h` is the place where the first five bytes are there, `n` and `g`
--- those where the KeyUID's length is not 0, and not above 16.
+-- `load` meets its contract: the slot that it names, and its kind.
 -- Assumes nothing.
-use borrow.Author.Tests.{lt-ltb, le-ltb}
-use native.Mathlib.Omega.{arith}
-use mathlib.Core.Logic.{⊎_elim}
-use borrow.Author.Tests.{ltb-false}
-use mathlib.Core.Path.{sym, ap, ◌∙◌}
-use Rattle.cells.proofs.CellsLaws.{length_part}
+use Rattle.std.proofs.Common.{◌≡◌, ◌∙◌, ap, sym, Ok, List, ℕ}
+use Rattle.std.proofs.lemmas.Result.{err_from_is_err_and}
 use Rattle.rules.specs.Numbers.{key_size}
+use Rattle.rules.specs.Checks.{AllPass}
 use Rattle.rules.specs.Fields.{byte, bytes}
 use Rattle.rules.specs.State.{namespace, key_tag}
-use Rattle.rules.specs.Frames.{load, contents_at, read_load}
+use Rattle.rules.specs.Frames.{Frame, load, contents_at, load_checks, read_load}
 use Rattle.frames.specs.declared.FrameRead.TheVariants.{Load}
-use Rattle.frames.proofs.KindsLaws.{load_short, load_bad, load_wrong, load_right, no_uid, long_uid, good_uid}
+use Rattle.frames.specs.Reading.{numbers_of}
+use Rattle.frames.proofs.KindsLaws.{passed_on, read_by, counted}
 use Rattle.frames.proofs.kinds.load.Goals as goal
 
-pub returns-then-f-lt5 : goal.returns-then-f-lt5
-unfolding read_load
-returns-then-f-lt5 c =
-    load_short c.args.f.now key_size _ c.if-f-lt5.true
+abbrev frame_of : List ℕ → Frame
+frame_of f = load (namespace (byte 1 f)) (key_tag (bytes 2 3 f)) (contents_at key_size 5 (byte 4 f) f)
 
-pub returns-then-l-eq0 : goal.returns-then-l-eq0
+-- its numbers, where the checks pass
+numbers : (f : List ℕ) → AllPass (load_checks key_size f) → Ok (Load (namespace (byte 1 f)) (key_tag (bytes 2 3 f)) (byte 4 f)) ≡ numbers_of (frame_of f)
+numbers f p = ap (λ l. Ok (Load (namespace (byte 1 f)) (key_tag (bytes 2 3 f)) l)) (sym (counted key_size f p))
+
+pub returns-in_err-ns : goal.returns-in_err-ns
 unfolding read_load
-returns-then-l-eq0 c =
+returns-in_err-ns c =
     let f = c.args.f.now in
-    load_bad f key_size _ c.if-f-lt5.false (⊎_elim (λ w. no_uid (byte 4 f) w) (λ w. long_uid (byte 4 f) (lt-ltb _ _ w.1)) c.then-l-eq0.either)
-
-pub overflow_add-l : goal.overflow_add-l
-overflow_add-l c = omega (arith, ltb-false)
-
-pub overflow_add-l-2 : goal.overflow_add-l-2
-overflow_add-l-2 c = omega (arith, ltb-false)
-
-pub returns-then-f-l : goal.returns-then-f-l
-unfolding read_load
-returns-then-f-l c =
-    load_wrong c.args.f.now key_size _ c.if-f-lt5.false (good_uid _ c.if-l-eq0.false (le-ltb _ _ c.if-l-gt-UID_MOST.false)) c.if-f-l.true
+    passed_on (err_from_is_err_and _ c.from_residual.ensures.1) ∙ read_by key_size f Load (frame_of f) (numbers f) c.in_err-ns.ensures
 
 pub returns : goal.returns
 unfolding read_load
 returns c =
     let f = c.args.f.now in
-    rw (c.namespace_of.ensures, c.word.ensures)
-    (ap (Load (namespace (byte 1 f)) (key_tag (bytes 2 3 f))) (sym (length_part 5 (byte 4 f) f (omega arith)))
-    ∙ load_right f key_size (load (namespace (byte 1 f)) (key_tag (bytes 2 3 f)) (contents_at key_size 5 (byte 4 f) f)) c.if-f-lt5.false
-    (good_uid _ c.if-l-eq0.false (le-ltb _ _ c.if-l-gt-UID_MOST.false))
-    c.if-f-l.false)
+    read_by key_size f Load (frame_of f) (numbers f) c.in_ok-ns.ensures

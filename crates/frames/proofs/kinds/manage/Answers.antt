@@ -1,12 +1,13 @@
 -- `manage` meets its contract: the length, then the fields.
 -- Assumes nothing.
-use Rattle.frames.proofs.KindsLaws.{wrong_length_lem, right_length}
+use Rattle.std.proofs.lemmas.Result.{err_from_is_err_and}
+use Rattle.frames.proofs.KindsLaws.{right_length, short_of}
 use Rattle.frames.proofs.kinds.manage.Goals as goal
 
-pub returns-then-f-ne3 : goal.returns-then-f-ne3
-returns-then-f-ne3 c =
-    wrong_length_lem 3 c.args.f.now _ c.if-f-ne3.true
+pub returns-in_err-ns : goal.returns-in_err-ns
+returns-in_err-ns c =
+    short_of 3 c.args.f.now _ (err_from_is_err_and _ c.from_residual.ensures.1) c.in_err-ns.ensures
 
 pub returns : goal.returns
 returns c =
-    rw c.namespace_of.ensures (right_length 3 c.args.f.now _ c.if-f-ne3.false)
+    rw (c.namespace_of.ensures, c.in_ok-ns.ensures.0) (right_length 3 c.args.f.now _ c.in_ok-ns.ensures.1)

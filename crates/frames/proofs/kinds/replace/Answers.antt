@@ -1,54 +1,55 @@
--- `replace` meets its contract: each return is one of the reading's tests. `h` is the place where the first five bytes are there, `n` and `g`
--- those where the old KeyUID's length is not 0, and not above 16; at `o` the new one's length is there, at `m` and `b` it is neither.
+-- `replace` meets its contract: each return is one of the reading's tests.
 -- Assumes nothing.
-use borrow.Author.Tests.{lt-ltb, le-ltb}
-use native.Mathlib.Omega.{arith}
-use mathlib.Core.Logic.{⊎_elim}
-use Prim.Native.Nat.{◌+◌}
-use borrow.Author.Tests.{ltb-false}
+use Rattle.std.proofs.Common.{◌∙◌, ◌+◌, ap, refl, Err, arith}
+use Rattle.std.proofs.lemmas.Result.{err_from_is_err_and}
 use Rattle.rules.specs.Fields.{byte}
-use Rattle.frames.proofs.KindsLaws.{replace_short, replace_bad_old, replace_no_new, replace_bad_new, replace_wrong, replace_right}
-use Rattle.frames.proofs.KindsLaws.{no_uid, long_uid, good_uid}
+use Rattle.frames.proofs.FieldsLaws.{pair_at}
+use Rattle.frames.proofs.KindsLaws.{uid_good, uid_bad, passed_on, replace_short, replace_bad_old, replace_no_new, replace_bad_new}
+use Rattle.frames.proofs.KindsLaws.{replace_wrong, replace_right}
 use Rattle.frames.proofs.kinds.replace.Goals as goal
 
-pub returns-then-f-lt5 : goal.returns-then-f-lt5
-returns-then-f-lt5 c =
-    replace_short c.args.f.now c.if-f-lt5.true
+pub returns-in_default : goal.returns-in_default
+returns-in_default c =
+    replace_short c.args.f.now c.in_default.len_below
 
-pub returns-then-o-eq0 : goal.returns-then-o-eq0
-returns-then-o-eq0 c =
+pub returns-in_err-o : goal.returns-in_err-o
+returns-in_err-o c =
     let f = c.args.f.now in
-    replace_bad_old f c.if-f-lt5.false (⊎_elim (λ w. no_uid (byte 4 f) w) (λ w. long_uid (byte 4 f) (lt-ltb _ _ w.1)) c.then-o-eq0.either)
-
-pub overflow_add-o : goal.overflow_add-o
-overflow_add-o c = omega (arith, ltb-false)
+    let bad = uid_bad (byte 4 f) c.in_err-o.ensures in
+    passed_on (err_from_is_err_and _ c.from_residual.ensures.1) ∙ ap Err bad.1 ∙ replace_bad_old f c.in-len5-up.len_at_least bad.0
 
 pub returns-then-f-o : goal.returns-then-f-o
 returns-then-f-o c =
-    let old = good_uid _ c.if-o-eq0.false (le-ltb _ _ c.if-o-gt-UID_MOST.false) in
-    replace_no_new c.args.f.now c.if-f-lt5.false old c.if-f-o.true
-
-pub returns-then-l-eq0 : goal.returns-then-l-eq0
-returns-then-l-eq0 c =
-    let old = good_uid _ c.if-o-eq0.false (le-ltb _ _ c.if-o-gt-UID_MOST.false) in
     let f = c.args.f.now in
-    let l = byte (5 + byte 4 f) f in
-    replace_bad_new f c.if-f-lt5.false old c.if-f-o.false (⊎_elim (λ w. no_uid l w) (λ w. long_uid l (lt-ltb _ _ w.1)) c.then-l-eq0.either)
+    let o = uid_good (byte 4 f) c.in_ok-o.ensures in
+    let few = c.if-f-o.true in
+    replace_no_new f c.in-len5-up.len_at_least o.0 (omega (arith, o.1))
 
-pub overflow_add-o-3 : goal.overflow_add-o-3
-overflow_add-o-3 c = omega (arith, ltb-false)
-
-pub overflow_add-o-4 : goal.overflow_add-o-4
-overflow_add-o-4 c = omega (arith, ltb-false)
+pub returns-in_err-l : goal.returns-in_err-l
+returns-in_err-l c =
+    let f = c.args.f.now in
+    let o = uid_good (byte 4 f) c.in_ok-o.ensures in
+    let enough = c.if-f-o.false in
+    let bad = uid_bad (byte (5 + byte 4 f) f) (rw o.1 at c.in_err-l.ensures) in
+    passed_on (err_from_is_err_and _ c.from_residual-in_err-l.ensures.1)
+    ∙ ap Err bad.1
+    ∙ replace_bad_new f c.in-len5-up.len_at_least o.0 (omega (arith, o.1)) bad.0
 
 pub returns-then-f-o-2 : goal.returns-then-f-o-2
 returns-then-f-o-2 c =
-    let old = good_uid _ c.if-o-eq0.false (le-ltb _ _ c.if-o-gt-UID_MOST.false) in
-    let new = good_uid _ c.if-l-eq0.false (le-ltb _ _ c.if-l-gt-UID_MOST.false) in
-    replace_wrong c.args.f.now c.if-f-lt5.false old c.if-f-o.false new c.if-f-o-2.true
+    let f = c.args.f.now in
+    let o = uid_good (byte 4 f) c.in_ok-o.ensures in
+    let enough = c.if-f-o.false in
+    let l = uid_good (byte (5 + byte 4 f) f) (rw o.1 at c.in_ok-l.ensures) in
+    let other = c.if-f-o-2.true in
+    replace_wrong f c.in-len5-up.len_at_least o.0 (omega (arith, o.1)) l.0 (λ e. other (omega (arith, o.1, l.1)))
 
 pub returns : goal.returns
 returns c =
-    let old = good_uid _ c.if-o-eq0.false (le-ltb _ _ c.if-o-gt-UID_MOST.false) in
-    let new = good_uid _ c.if-l-eq0.false (le-ltb _ _ c.if-l-gt-UID_MOST.false) in
-    rw (c.namespace_of.ensures, c.word.ensures) (replace_right c.args.f.now c.if-f-lt5.false old c.if-f-o.false new c.if-f-o-2.false)
+    let f = c.args.f.now in
+    let o = uid_good (byte 4 f) c.in_ok-o.ensures in
+    let enough = c.if-f-o.false in
+    let l = uid_good (byte (5 + byte 4 f) f) (rw o.1 at c.in_ok-l.ensures) in
+    let size = c.if-f-o-2.false in
+    rw (c.namespace_of.ensures, c.tag_of.ensures, ← pair_at 2 3 f refl (omega arith), o.1, l.1)
+    (replace_right f c.in-len5-up.len_at_least o.0 (omega (arith, o.1)) l.0 (omega (arith, o.1, l.1)))

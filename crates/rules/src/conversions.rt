@@ -1,10 +1,11 @@
-// The numbers by which a line and an image tell refusals and locks.
+// What refusals and locks are told as, and made of: their numbers in a line and an image; of a bad line its refusal.
 ghost use Rattle.std.specs.Prelude.{◌≡◌, ◌≢◌, MatchResult};
 ghost use Rattle.rules.specs.declared.Lock.{Lock};
+ghost use Rattle.rules.specs.declared.Refusal.TheVariants.{NotAFrameLine};
 ghost use Rattle.rules.specs.Answers.{refusal_number};
 ghost use Rattle.rules.specs.Locks.{lock_value};
 
-use crate::{Lock, Refusal};
+use crate::{BadLine, Lock, Refusal};
 
 // A number that is no lock's.
 #[derive(Clone, Copy, Debug, PartialEq, Eq)]
@@ -43,6 +44,14 @@ impl From<Refusal> for u16 {
             Refusal::InvalidMessage => 0x0717,
             Refusal::InvalidMessageKeyUid => 0x0718,
         }
+    }
+}
+
+impl From<BadLine> for Refusal {
+    ghost from_gives = { λ why refusal. refusal ≡ NotAFrameLine why };
+
+    fn from(why: BadLine) -> Refusal {
+        Refusal::NotAFrameLine(why)
     }
 }
 
