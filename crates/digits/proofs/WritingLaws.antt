@@ -1,11 +1,12 @@
 -- Bytes as digits, written one byte after the other, and the line of an answer
 -- that has these bytes.
 -- Assumes nothing.
-use Rattle.std.proofs.Common.{◌≡◌, ℕ, ◌+◌, ◌*◌, ◌/◌, ◌%◌, ◌<◌, ◌≤◌, Bool, true, false, cond, leb, List, [], ◌∷◌}
-use Rattle.std.proofs.Common.{◌++◌, length, get_or, take, drop, set, sym, refl, ap, ◌∙◌, append_assoc, add-one, arith, length-append}
+use Rattle.std.proofs.Common.{◌≡◌, ℕ, ◌+◌, ◌*◌, ◌/◌, ◌%◌, ◌^◌, ◌<◌, ◌≤◌, Bool, true, false, cond, leb, List, [], ◌∷◌}
+use Rattle.std.proofs.Common.{◌++◌, length, get_or, take, drop, set, refl, ap, ◌∙◌, append_assoc, add-one, arith, length-append}
 use Rattle.std.proofs.Common.{length-take-le, take-suc, le-leb}
 use Rattle.std.specs.Prelude.{Ok, Err}
-use mathlib.Core.Option.{Option, none, some}
+use Rattle.std.specs.Int.{w16, w64, to_be_bytes, to_le_bytes}
+use mathlib.Core.Option.{none}
 use borrow.Author.Tests.{lt-leb}
 use Rattle.cells.proofs.CellsLaws.{grow}
 use Rattle.cells.specs.Cells.{zeros}
@@ -13,15 +14,13 @@ use Rattle.rules.specs.Answer.{Answer}
 use Rattle.rules.specs.declared.Granted.TheVariants.{Discovery}
 use Rattle.rules.specs.declared.Refusal.{Refusal}
 use Rattle.rules.specs.declared.BadLine.{BadLine}
-use Rattle.rules.specs.declared.BadLine.TheVariants.{Empty, TooLong, BadDigit, Odd}
+use Rattle.rules.specs.declared.Refusal.TheVariants.{NotAFrameLine}
 use Rattle.rules.specs.declared.DiscoveryFields.{DiscoveryFields}
 use Rattle.rules.specs.Numbers.{discovery_size}
 use Rattle.rules.specs.Discovery.{header_bytes, tper_bytes, key_per_io_bytes, response, own_header, own_tper, own_key_per_io, own_fields}
 use Rattle.rules.specs.Discovering.{respond}
-use Rattle.rules.specs.Answers.{refusal_number, reason, fault_of, fault_data, answer_bytes, answer_line, digit_of, digits_of, line_feed}
-use Rattle.digits.specs.declared.Fault.{Fault}
+use Rattle.rules.specs.Answers.{refusal_number, reason, place_in, fault_of, answer_bytes, answer_line, digit_of, digits_of, line_feed}
 use Rattle.digits.specs.Digits.{Wrote, wrote}
-use Rattle.digits.specs.Decoding.{tells}
 
 length_digits : (bs : List ℕ) → length (digits_of bs) ≡ length bs * 2
 unfolding digits_of
@@ -96,28 +95,25 @@ unfolding response header_bytes tper_bytes key_per_io_bytes own_fields own_heade
 discovery_length = refl
 
 -- ------------------------------------------------------------------------
--- A refusal's bytes, with what it tells of a line or without
+-- A refusal's bytes: its number, and what it tells of a line
 
-some_reason : (why : BadLine) → reason why ≡ 0 → ⊥
-some_reason Empty e = omega arith
-some_reason TooLong e = omega arith
-some_reason (BadDigit place) e = omega arith
-some_reason Odd e = omega arith
+tells_nothing : (r : Refusal) → ((why : BadLine) → r ≡ NotAFrameLine why → ⊥) → fault_of r ≡ none
+unfolding fault_of
+tells_nothing r other = grind (arith)
 
-quiet_data : (o : Option BadLine) → (tells o).reason ≡ 0 → fault_data o ≡ []
-quiet_data none e = refl
-quiet_data (some why) e = absurd (some_reason why e)
+module _ (r : Refusal) {n : ℕ} {number : List ℕ} (is : n ≡ refusal_number r) (fits : n < 2 ^ 16) (bytes : number ≡ to_be_bytes w16 n) where
+  high_byte : refusal_number r / 256 ≡ get_or number 0 0
+  high_byte = rw (bytes, ← is) (omega arith)
 
-loud_data : (o : Option BadLine) → ((tells o).reason ≡ 0 → ⊥)
-    → fault_data o ≡ (tells o).reason ∷ (tells o).place % 256 ∷ (tells o).place / 256 % 256 ∷ []
-loud_data none e = absurd (e refl)
-loud_data (some why) e = refl
+  low_byte : refusal_number r % 256 ≡ get_or number 1 0
+  low_byte = rw (bytes, ← is) (omega arith)
 
-module _ (r : Refusal) {n : ℕ} {t : Fault} (number : n ≡ refusal_number r) (told : t ≡ tells (fault_of r)) where
-  pub quiet_bytes : t.reason ≡ 0 → answer_bytes (Err r) ≡ n / 256 ∷ n % 256 ∷ []
-  quiet_bytes e = rw (number, quiet_data (fault_of r) (sym (ap (λ (f : Fault). f.reason) told) ∙ e))
+  pub number_alone : ((why : BadLine) → r ≡ NotAFrameLine why → ⊥) → answer_bytes (Err r) ≡ get_or number 0 0 ∷ get_or number 1 0 ∷ []
+  number_alone other = rw (high_byte, low_byte, tells_nothing r other)
 
-  pub loud_bytes : (t.reason ≡ 0 → ⊥)
-      → answer_bytes (Err r) ≡ n / 256 ∷ n % 256 ∷ t.reason ∷ t.place % 256 ∷ t.place / 256 % 256 ∷ []
-  loud_bytes e =
-      rw (number, told, loud_data (fault_of r) (λ z. e (ap (λ (f : Fault). f.reason) told ∙ z)))
+  pub number_told : (why : BadLine) {told : ℕ × ℕ} {place : List ℕ} → r ≡ NotAFrameLine why
+      → (told.0 ≡ reason why) × (told.1 ≡ place_in why) → place ≡ to_le_bytes w64 told.1
+      → answer_bytes (Err r) ≡ get_or number 0 0 ∷ get_or number 1 0 ∷ told.0 ∷ get_or place 0 0 ∷ get_or place 1 0 ∷ []
+  unfolding fault_of
+  number_told why line tells low_first =
+      rw (high_byte, low_byte, line, low_first, tells.0, tells.1)

@@ -22,20 +22,13 @@ pub fn read_line(line: &[u8], frame: &mut [u8; FRAME_MOST]) -> Result<usize, Bad
     if n > DIGITS_MOST {
         return Err(BadLine::TooLong);
     }
-    if !reading::decode(line, frame) {
-        return Err(BadLine::BadDigit(reading::first_bad(line)));
+    if let Some(place) = reading::decode(line, frame) {
+        return Err(BadLine::BadDigit(place));
     }
     if n % 2 == 1 {
         return Err(BadLine::Odd);
     }
     Ok(n / 2)
-}
-
-// What a refusal tells of a line: the reason, 0 for those that tell nothing, and the place.
-#[derive(Clone, Copy)]
-pub(crate) struct Fault {
-    pub reason: u8,
-    pub place: usize,
 }
 
 // The answer's number in the paper.
@@ -53,20 +46,10 @@ pub fn write_answer(answer: Answer, out: &mut [u8]) -> usize
     ensures { record { bytes = result; out = out.new } ≡ wrote answer out.old }
 {
     match answer {
-        Ok(Granted::Done) => {
-            let bytes = [0u8, 0];
-            writing::write_line(&bytes, out)
-        }
-        Ok(Granted::LockStates(d)) => {
-            let bytes = [
-                0u8,
-                0,
-                (d % 256) as u8,
-                (d / 256 % 256) as u8,
-                (d / 65536 % 256) as u8,
-                (d / 16777216 % 256) as u8,
-            ];
-            writing::write_line(&bytes, out)
+        Ok(Granted::Done) => writing::write_line(&[0, 0], out),
+        Ok(Granted::LockStates(dword)) => {
+            let [lowest, low, high, highest] = dword.to_le_bytes();
+            writing::write_line(&[0, 0, lowest, low, high, highest], out)
         }
         Ok(Granted::Discovery) => writing::write_discovery(out),
         Err(refusal) => writing::write_refusal(refusal, out),

@@ -1,74 +1,24 @@
 // Numbers of refusals, what they tell of a line, and lines of answers.
 ghost use Rattle.std.specs.Prelude.{◌≡◌, ◌*◌, ◌/◌, ◌<◌, ◌≤◌, ◌++◌, length, drop};
-ghost use Rattle.std.proofs.Math.Option.{some};
 ghost use Rattle.rules.specs.Answer.{Answer};
 ghost use Rattle.rules.specs.declared.Granted.{Granted};
-ghost use Rattle.rules.specs.Answers.{fault_of, answer_bytes, digit_of, digits_of};
+ghost use Rattle.rules.specs.Answers.{reason, place_in, answer_bytes, digit_of, digits_of};
 ghost use Rattle.digits.specs.Digits.{wrote};
-ghost use Rattle.digits.specs.Decoding.{tells};
 
-use crate::Fault;
 use rules::{BadLine, DISCOVERY_SIZE, Refusal};
 
 // The bytes of an answer's number.
 const NUMBER_SIZE: usize = 2;
 
-fn fault_of(why: BadLine) -> Fault
-    ensures { result ≡ tells (some why) }
+// A reason's number, and its place, 0 where it has none.
+fn told(why: BadLine) -> (u8, usize)
+    ensures { (result.0 ≡ reason why) × (result.1 ≡ place_in why) }
 {
     match why {
-        BadLine::Empty => Fault {
-            reason: 1,
-            place: 0,
-        },
-        BadLine::TooLong => Fault {
-            reason: 2,
-            place: 0,
-        },
-        BadLine::BadDigit(place) => Fault { reason: 3, place },
-        BadLine::Odd => Fault {
-            reason: 4,
-            place: 0,
-        },
-    }
-}
-
-#[tactic(auto, unfolding(rules::specs::Answers::fault_of))]
-fn fault_in(refusal: Refusal) -> Fault
-    ensures { result ≡ tells (fault_of refusal) }
-{
-    let nothing = Fault {
-        reason: 0,
-        place: 0,
-    };
-    match refusal {
-        Refusal::InvalidOpcode => nothing,
-        Refusal::InvalidField => nothing,
-        Refusal::InvalidNamespace => nothing,
-        Refusal::InvalidKeyTag => nothing,
-        Refusal::IncorrectKey => nothing,
-        Refusal::BlocksOutOfRange => nothing,
-        Refusal::LockNotChangeable => nothing,
-        Refusal::BootWriteProhibited => nothing,
-        Refusal::NotAFrameLine(why) => fault_of(why),
-        Refusal::UnknownKind => nothing,
-        Refusal::WrongLength => nothing,
-        Refusal::BadKeyUidLength => nothing,
-        Refusal::AlreadyManaged => nothing,
-        Refusal::NotManaged => nothing,
-        Refusal::BadTagCount => nothing,
-        Refusal::PoolTooSmall => nothing,
-        Refusal::SlotOccupied => nothing,
-        Refusal::SlotEmpty => nothing,
-        Refusal::OtherOldKeyUid => nothing,
-        Refusal::OtherKey => nothing,
-        Refusal::WrongStore => nothing,
-        Refusal::UnsoundState => nothing,
-        Refusal::OutputTooShort => nothing,
-        Refusal::IntegrityFailed => nothing,
-        Refusal::NotAResponse => nothing,
-        Refusal::InvalidMessage => nothing,
-        Refusal::InvalidMessageKeyUid => nothing,
+        BadLine::Empty => (1, 0),
+        BadLine::TooLong => (2, 0),
+        BadLine::BadDigit(place) => (3, place),
+        BadLine::Odd => (4, 0),
     }
 }
 
@@ -82,21 +32,15 @@ fn digit(n: u8) -> u8
     b'A' + (n - 10)
 }
 
-// Two digits for each byte, at the front of the output.
+// Two digits for each byte, at the front of the output. Not proved over `out.chunks_exact_mut(2)`: std doesn't say what the slice ends as.
 fn put_digits(bytes: &[u8], out: &mut [u8])
     requires { length bytes.now * 2 ≤ length out.old }
     ensures { out.new ≡ digits_of bytes.now ++ drop (length bytes.now * 2) out.old }
 {
-    let mut i = 0;
-    while i < bytes.len() {
-        let byte = bytes[i];
-        let high = digit(byte / 16);
-        let low = digit(byte % 16);
+    for (i, byte) in bytes.iter().enumerate() {
         let at = i * 2;
-        let next = at + 1;
-        out[at] = high;
-        out[next] = low;
-        i += 1;
+        out[at] = digit(byte / 16);
+        out[at + 1] = digit(byte % 16);
     }
 }
 
@@ -128,20 +72,11 @@ pub(crate) fn write_discovery(out: &mut [u8]) -> usize
 pub(crate) fn write_refusal(refusal: Refusal, out: &mut [u8]) -> usize
     ensures { record { bytes = result; out = out.new } ≡ wrote (Err refusal) out.old }
 {
-    let n = u16::from(refusal);
-    let told = fault_in(refusal);
-    let reason = told.reason;
-    let place = told.place;
-    if reason == 0 {
-        let bytes = [(n / 256) as u8, (n % 256) as u8];
-        return write_line(&bytes, out);
-    }
-    let bytes = [
-        (n / 256) as u8,
-        (n % 256) as u8,
-        reason,
-        (place % 256) as u8,
-        (place / 256 % 256) as u8,
-    ];
-    write_line(&bytes, out)
+    let [status, code] = u16::from(refusal).to_be_bytes();
+    let Refusal::NotAFrameLine(why) = refusal else {
+        return write_line(&[status, code], out);
+    };
+    let (reason, place) = told(why);
+    let [low, high, ..] = place.to_le_bytes();
+    write_line(&[status, code, reason, low, high], out)
 }

@@ -1,68 +1,59 @@
--- The tests of `decided` by masks and shifts, what a field asks for, and what
--- `decided` is where its tests are known.
+-- The fields of Dword 11 by masks and shifts, a number that no state has, and
+-- what `decided` is where every test passes.
 -- Assumes nothing.
-use Rattle.std.specs.Prelude.{Ok, Err}
-use mathlib.Core.Path.{◌≡◌, refl}
-use mathlib.Core.Bool.{true, false, not, ◌||◌}
-use Prim.Native.Nat.{ℕ, zero, suc, ◌<◌, ◌/◌, ◌^◌}
+use Rattle.std.specs.Prelude.{Result, Ok}
+use mathlib.Core.Path.{◌≡◌, refl, ap, ◌∙◌}
+use mathlib.Core.Bool.{false}
+use Prim.Native.Nat.{ℕ, zero, suc, ◌<◌, ◌≤◌, ◌/◌, ◌^◌}
 use native.Mathlib.Omega.{arith}
 use lib.Bits.{bit_and, and_mask}
-use lib.Dec.{eqb, ltb}
-use borrow.Author.Tests.{ne_eqb}
+use borrow.Author.Tests.{le-ltb}
 use Rattle.rules.specs.declared.Lock.{Lock}
-use Rattle.rules.specs.declared.Lock.TheVariants.{WriteLockedUntilPowerCycle}
+use Rattle.rules.specs.declared.Lock.TheVariants.{WriteUnlocked, WriteLocked, WriteLockedUntilPowerCycle}
+use Rattle.rules.specs.declared.Refusal.{Refusal}
+use Rattle.cells.proofs.PredicatesLaws.{neither}
 use Rattle.rules.specs.declared.BootLocks.{BootLocks}
-use Rattle.rules.specs.Answers.{00·02, 01·0E}
 use Rattle.rules.specs.Fields.{bits}
-use Rattle.rules.specs.Locks.{field0, field1, invalid_fields, asked, asks_held, not_changeable, changed}
-use Rattle.locks.specs.Deciding.{decided}
+use Rattle.rules.specs.Locks.{lock_value, field0, field1, invalid_fields, asked, not_changeable}
+use Rattle.locks.specs.Deciding.{held, decided}
 
 -- ------------------------------------------------------------------------
 -- Masks and shifts
 
-pub field0_mask : (d : ℕ) → field0 d ≡ bit_and d 7
+pub field0_mask : (d : ℕ) → bit_and d 7 ≡ field0 d
 field0_mask d = rw (and_mask d 3) (omega arith)
 
-pub field1_mask : (d : ℕ) → field1 d ≡ bit_and (d / 8) 7
-field1_mask d = rw (and_mask (d / 8) 3)
+-- where no bit above field 1 is set
+pub field1_shift : (d : ℕ) → d / 64 ≡ 0 → d / 8 ≡ field1 d
+field1_shift d none = omega arith
 
-pub invalid_masks : (d : ℕ) → d < 2 ^ 32 → invalid_fields d ≡ ltb 3 (bit_and d 7) || ltb 3 (bit_and (d / 8) 7) || not (eqb (d / 64) 0)
-invalid_masks d h =
-    let e : bits 31 6 d ≡ d / 64 = omega arith in
-    rw (field0_mask d, field1_mask d, e)
+pub rest_shift : (d : ℕ) → d < 2 ^ 32 → d / 64 ≡ bits 31 6 d
+rest_shift d fits = omega arith
 
-pub held_masks : (locks : BootLocks) (d : ℕ)
-    → not_changeable locks d ≡ asks_held locks.partition0 (bit_and d 7) || asks_held locks.partition1 (bit_and (d / 8) 7)
-held_masks locks d = rw (field0_mask d, field1_mask d)
+pub ruleset fields = (field0_mask, field1_shift, rest_shift)
 
 -- ------------------------------------------------------------------------
--- What a field asks for, by what it is not
+-- A number that is no state's value, nor 0
 
-pub asked_rest : (field : ℕ) (lock : Lock) → (field ≡ 0 → ⊥) → (field ≡ 1 → ⊥) → (field ≡ 2 → ⊥)
-    → asked field lock ≡ WriteLockedUntilPowerCycle
-asked_rest zero lock a b c = absurd (a refl)
-asked_rest (suc zero) lock a b c = absurd (b refl)
-asked_rest (suc (suc zero)) lock a b c = absurd (c refl)
-asked_rest (suc (suc (suc field))) lock a b c = refl
-
-pub asks_held_rest : (field : ℕ) → (field ≡ 1 → ⊥) → eqb field 2 ≡ asks_held WriteLockedUntilPowerCycle field
-asks_held_rest zero n = refl
-asks_held_rest (suc zero) n = absurd (n refl)
-asks_held_rest (suc (suc zero)) n = refl
-asks_held_rest (suc (suc (suc field))) n = ne_eqb (suc (suc (suc field))) 2 (omega arith)
+pub no_state : (field : ℕ) → (field ≡ 0 → ⊥) → ((lock : Lock) → lock_value lock ≡ field → ⊥) → 3 < field
+no_state zero some none = absurd (some refl)
+no_state (suc zero) some none = absurd (none WriteUnlocked refl)
+no_state (suc (suc zero)) some none = absurd (none WriteLocked refl)
+no_state (suc (suc (suc zero))) some none = absurd (none WriteLockedUntilPowerCycle refl)
+no_state (suc (suc (suc (suc field)))) some none = omega arith
 
 -- ------------------------------------------------------------------------
--- The three answers
+-- Where every test passes
 
-module _ (locks : BootLocks) (d : ℕ) where
-  pub decided_invalid : invalid_fields d ≡ true → decided locks d ≡ Err 00·02
+module _ (locks : BootLocks) (d : ℕ) (fits : d < 2 ^ 32) (none : d / 64 ≡ 0) {p q : Lock} where
+  pub decided_done : bit_and d 7 ≤ 3 → d / 8 ≤ 3
+      → p ≡ asked (bit_and d 7) locks.partition0 → q ≡ asked (d / 8) locks.partition1
+      → held locks.partition0 p ≡ false → held locks.partition1 q ≡ false
+      → ◌≡◌ {A = Result BootLocks Refusal} (Ok (record { partition0 = p; partition1 = q })) (decided locks d)
   unfolding decided
-  decided_invalid e = rw e
-
-  pub decided_held : invalid_fields d ≡ false → not_changeable locks d ≡ true → decided locks d ≡ Err 01·0E
-  unfolding decided
-  decided_held e f = rw (e, f)
-
-  pub decided_done : invalid_fields d ≡ false → not_changeable locks d ≡ false → decided locks d ≡ Ok (changed locks d)
-  unfolding decided
-  decided_done e f = rw (e, f)
+  decided_done low0 low1 is0 is1 free0 free1 =
+      let e0 = field0_mask d in
+      let e1 = field1_shift d none in
+      let valid : invalid_fields d ≡ false = rw (← e0, ← e1, ← rest_shift d fits, le-ltb _ _ low0, le-ltb _ _ low1, none) in
+      let free : not_changeable locks d ≡ false = rw (← e0, ← e1) (neither _ _ (rw is0 at free0) (rw is1 at free1)) in
+      rw (is0 ∙ ap (λ n. asked n locks.partition0) e0, is1 ∙ ap (λ n. asked n locks.partition1) e1, valid, free)

@@ -1,92 +1,89 @@
 // The two boot partitions' locks: judged and changed by value, and changed where they lie.
 #![tactic(auto)]
 
-ghost use Rattle.std.specs.Prelude.{◌≡◌};
-ghost use Rattle.rules.specs.Locks.{lock_value, asked as askedFor, asks_held, shown as shownIn, both_locked};
+ghost use Rattle.std.specs.Prelude.{◌≡◌, ◌<◌, ◌≤◌, true, false, MatchResult, unwrap_or};
 ghost use Rattle.std.specs.Result.{result_unwrap_or};
-ghost use Rattle.locks.specs.Deciding.{decided, told, boot_written};
+ghost use Rattle.rules.specs.declared.Lock.{Lock};
+ghost use Rattle.rules.specs.Answers.{00·02, 01·0E};
+ghost use Rattle.rules.specs.Locks.{lock_value, asked, shown as shownIn, both_locked};
+ghost use Rattle.locks.specs.Deciding.{held, decided, told, boot_written};
 
 use rules::{Answer, BootLocks, Granted, Lock, Refusal};
 
+// The bits of a field of Dword 11.
+const FIELD: u32 = 7;
+
 // Both partitions are judged before either changes.
+#[tactic(auto, using(crate::proofs::DecidingLaws::fields), unfolding(crate::specs::Deciding::decided))]
 pub fn decide(locks: BootLocks, dword11: u32) -> Result<BootLocks, Refusal>
     ensures { result ≡ decided locks dword11 }
 {
-    let field0 = dword11 & 7;
-    let field1 = (dword11 >> 3) & 7;
-    if field0 > 3 || field1 > 3 || dword11 >> 6 != 0 {
+    if dword11 >> 6 != 0 {
         return Err(Refusal::InvalidField);
     }
-    let lock0 = locks.partition0;
-    let lock1 = locks.partition1;
-    if asks_held(lock0, field0) || asks_held(lock1, field1) {
-        return Err(Refusal::LockNotChangeable);
-    }
+    let asked0 = asked((dword11 & FIELD) as u8)?;
+    let asked1 = asked((dword11 >> 3) as u8)?;
     Ok(BootLocks {
-        partition0: asked(lock0, field0),
-        partition1: asked(lock1, field1),
+        partition0: next(locks.partition0, asked0)?,
+        partition1: next(locks.partition1, asked1)?,
     })
 }
 
-// Whether a field asks a partition in Until Power Cycle for a different state.
-fn asks_held(lock: Lock, field: u32) -> bool
-    ensures { result ≡ asks_held lock field }
+// The state that a field asks for; none for no change.
+#[tactic(auto, using(crate::proofs::DecidingLaws::no_state))]
+fn asked(field: u8) -> Result<Option<Lock>, Refusal>
+    ensures { MatchResult result
+        (λ wanted. (field ≤ 3) × ((lock : Lock) → unwrap_or wanted lock ≡ asked field lock))
+        (λ refusal. (3 < field) × (refusal ≡ 00·02)) }
 {
-    match lock {
-        Lock::WriteUnlocked => false,
-        Lock::WriteLocked => false,
-        Lock::WriteLockedUntilPowerCycle => field == 1 || field == 2,
+    if field == 0 {
+        return Ok(None);
     }
+    Lock::try_from(field)
+        .map(Some)
+        .map_err(|_| Refusal::InvalidField)
 }
 
-// The state that a field asks for.
-fn asked(lock: Lock, field: u32) -> Lock
-    ensures { result ≡ askedFor field lock }
+// A partition's state once it is asked; one in Until Power Cycle is held.
+fn next(lock: Lock, asked: Option<Lock>) -> Result<Lock, Refusal>
+    ensures { MatchResult result
+        (λ next. (next ≡ unwrap_or asked lock) × (held lock next ≡ false))
+        (λ refusal. (held lock (unwrap_or asked lock) ≡ true) × (refusal ≡ 01·0E)) }
 {
-    match field {
-        0 => lock,
-        1 => Lock::WriteUnlocked,
-        2 => Lock::WriteLocked,
-        _ => Lock::WriteLockedUntilPowerCycle,
+    let next = asked.unwrap_or(lock);
+    if lock == Lock::WriteLockedUntilPowerCycle && next != lock {
+        return Err(Refusal::LockNotChangeable);
     }
+    Ok(next)
 }
 
 // The pair in Dword 11's layout, for Get Features.
 pub fn shown(locks: BootLocks) -> u32
     ensures { result ≡ shownIn locks }
 {
-    let lock0 = locks.partition0;
-    let lock1 = locks.partition1;
-    lock_value(lock0) as u32 + 8 * lock_value(lock1) as u32
+    u32::from(lock_value(locks.partition0)) + 8 * u32::from(lock_value(locks.partition1))
 }
 
 // A state's value in its field.
 pub fn lock_value(lock: Lock) -> u8
     ensures { result ≡ lock_value lock }
 {
-    match lock {
-        Lock::WriteUnlocked => 1,
-        Lock::WriteLocked => 2,
-        Lock::WriteLockedUntilPowerCycle => 3,
-    }
+    u8::from(lock)
 }
 
 // A boot write passes where the partition is Write Unlocked.
+#[tactic(auto, unfolding(crate::specs::Deciding::boot_written))]
 pub fn boot_write(locks: BootLocks, partition: u8) -> Answer
     ensures { result ≡ boot_written locks partition }
 {
-    if partition > 1 {
-        return Err(Refusal::InvalidField);
-    }
-    let lock = if partition == 0 {
-        locks.partition0
-    } else {
-        locks.partition1
+    let lock = match partition {
+        0 => locks.partition0,
+        1 => locks.partition1,
+        _ => return Err(Refusal::InvalidField),
     };
     match lock {
         Lock::WriteUnlocked => Ok(Granted::Done),
-        Lock::WriteLocked => Err(Refusal::BootWriteProhibited),
-        Lock::WriteLockedUntilPowerCycle => Err(Refusal::BootWriteProhibited),
+        Lock::WriteLocked | Lock::WriteLockedUntilPowerCycle => Err(Refusal::BootWriteProhibited),
     }
 }
 
