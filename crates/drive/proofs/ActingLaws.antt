@@ -11,10 +11,10 @@ use Rattle.rules.specs.declared.Tag.{Tag}
 use Rattle.rules.specs.declared.Registers.{Registers}
 use Rattle.rules.specs.declared.Refusal.{Refusal}
 use Rattle.rules.specs.Numbers.{slot_width, slot_places, cache_size, uid_most, key_size, digits_most}
-use Rattle.rules.specs.View.{view_of, other_key}
-use Rattle.rules.specs.Checks.{◌when◌, AllPass, Verdict, passed, refused, first_refusal, settle, judged}
-use Rattle.rules.specs.Answers.{07·09, 07·0A, 07·0B, 07·0C}
-use Rattle.rules.specs.State.{State, Outcome, refuse, obey}
+use Rattle.rules.specs.View.{view_of, managed, tag_above, other_key}
+use Rattle.rules.specs.Checks.{Check, ◌when◌, AllPass, Verdict, passed, refused, first_refusal, settle, judged}
+use Rattle.rules.specs.Answers.{00·0B, 00·25, 07·06, 07·09, 07·0A, 07·0B, 07·0C}
+use Rattle.rules.specs.State.{State, Outcome, refuse, obey, no_namespace, count}
 use Rattle.rules.specs.Slots.{slot, Contents, place_of, empty, loaded, uid_of}
 use Rattle.rules.specs.Sound.{unsound}
 use Rattle.rules.specs.Effects.{store_key, empty_slot}
@@ -27,8 +27,9 @@ use Rattle.rules.proofs.SoundLaws.{sound_cache}
 use Rattle.rules.proofs.EffectsLaws.{named_slot}
 use Rattle.frames.specs.Reading.{frame, refusal, read_from}
 use Rattle.frames.proofs.StayingLaws.{reading_stays}
-use Rattle.drive.specs.declared.Found.TheVariants as found
-use Rattle.drive.specs.Acting.{state, Sound, acted, located, put_at, load_at, replace_at, clear_at}
+use Rattle.std.specs.Prelude.{Result, Ok, Err}
+use borrow.Author.Tests.{not-false}
+use Rattle.drive.specs.Acting.{state, Sound, acted, counted, placed, located, put_at, load_at, replace_at, clear_at}
 
 -- soundness does not look at the marks
 pub sound_keys : (d : Registers) (keys marks : List ℕ) → unsound (state d keys marks) ≡ unsound (state d keys [])
@@ -47,7 +48,10 @@ line_acts s line =
     ∙ sym (judged_append (reading_checks line) (frame_rule (view_of s) (frame_of line)).checks (refuse s) (done s (frame_rule (view_of s) (frame_of line))))
 
 -- ------------------------------------------------------------------------
--- The place, or the refusal
+-- What `?` hands on; the place, or the refusal
+
+pub passed_on : {A : Type 0} {e : Refusal} {r : Result A Refusal} → (y : Refusal) × (r ≡ Err y) × (y ≡ e) → r ≡ Err e
+passed_on p = p.1 ∙ ap Err p.2
 
 verdict_of : {A : Type 0} (v : Verdict Refusal) (p : A) (r : Refusal) → Err r ≡ settle v Err (Ok p) → v ≡ refused r
 verdict_of passed p r e = absurd (let z : ◌≡◌ {A = ℕ} 0 1 = cc in omega arith)
@@ -56,6 +60,46 @@ verdict_of (refused q) p r e = let z : q ≡ r = cc in ap refused z
 place_of_lem : {A : Type 0} (v : Verdict Refusal) (p q : A) → Ok q ≡ settle v Err (Ok p) → (v ≡ passed) × (q ≡ p)
 place_of_lem passed p q e = (refl, cc)
 place_of_lem (refused r) p q e = absurd (let z : ◌≡◌ {A = ℕ} 0 1 = cc in omega arith)
+
+-- of the namespace: not managed, or its tag count
+module _ (d : Registers) (keys marks : List ℕ) (ns : Namespace) where
+  abbrev namespace_checks : List (Check Refusal)
+  namespace_checks =
+      00·0B when no_namespace ns
+      ∷ 07·06 when not (managed (view_of (state d keys marks)) ns)
+      ∷ []
+
+  -- its refusal stands
+  pub unmanaged_refused : {A : Type 0} (f : Refusal → A) (o : A) (r : Refusal) → Err r ≡ counted (state d [] []) ns → judged namespace_checks f o ≡ f r
+  unfolding counted
+  unmanaged_refused f o r e = ap (λ v. settle v f o) (verdict_of (first_refusal namespace_checks) (count (state d [] []) ns) r e)
+
+  pub record Managed (n : ℕ) : Type 0 where
+    pub named : no_namespace ns ≡ false
+    pub held : managed (view_of (state d [] [])) ns ≡ true
+    pub counts : n ≡ count (state d [] []) ns
+
+  pub is_managed : (n : ℕ) → Ok n ≡ counted (state d [] []) ns → Managed n
+  unfolding counted
+  is_managed n e =
+      let p = place_of_lem (first_refusal namespace_checks) (count (state d [] []) ns) n e in
+      let all = then_pass namespace_checks p.0 in
+      record { named = all.0; held = not-false _ all.1.0; counts = p.1 }
+
+  module _ (tag : Tag) where
+    located_by : located (state d keys marks) ns tag
+        ≡ judged namespace_checks Err (judged (00·25 when tag_above (view_of (state d keys marks)) ns tag ∷ []) Err (Ok (place_of ns tag)))
+    unfolding located
+    located_by = judged_append namespace_checks (00·25 when tag_above (view_of (state d keys marks)) ns tag ∷ []) Err (Ok (place_of ns tag))
+
+    pub locate_refused : (r : Refusal) → Err r ≡ counted (state d [] []) ns → Err r ≡ located (state d keys marks) ns tag
+    locate_refused r e = sym (located_by ∙ unmanaged_refused Err _ r e)
+
+    pub locate_managed : (n : ℕ) → Ok n ≡ counted (state d [] []) ns → placed n ns tag ≡ located (state d keys marks) ns tag
+    unfolding placed
+    locate_managed n e =
+        let m = is_managed n e in
+        ap (λ (k : ℕ). placed k ns tag) m.counts ∙ (rw (m.named, m.held)) ∙ sym located_by
 
 module _ (d : Registers) (keys marks : List ℕ) (ns : Namespace) (tag : Tag) where
   abbrev s : State

@@ -10,14 +10,14 @@ use Rattle.rules.specs.Checks.{Verdict, passed, refused, first_refusal, settle, 
 use Rattle.rules.specs.Call.{call_checks}
 use Rattle.rules.proofs.ChecksLaws.{then_pass}
 use Rattle.rules.proofs.SoundLaws.{sound_cache}
-use Rattle.drive.specs.declared.Admission.TheVariants.{(Ok tt), Refused}
+use Rattle.std.specs.Prelude.{Result, Ok, Err, ⊤}
 use Rattle.drive.specs.Acting.{state, Ready, admitted}
 
-refused_by : (v : Verdict Refusal) (r : Refusal) → Err r ≡ settle v Err (Ok tt) → v ≡ refused r
+refused_by : (v : Verdict Refusal) (r : Refusal) → ◌≡◌ {A = Result ⊤ Refusal} (Err r) (settle v Err (Ok tt)) → v ≡ refused r
 refused_by passed r e = absurd (let z : ◌≡◌ {A = ℕ} 0 1 = cc in omega arith)
 refused_by (refused q) r e = let z : q ≡ r = cc in ap refused z
 
-opened_by : (v : Verdict Refusal) → (Ok tt) ≡ settle v Err (Ok tt) → v ≡ passed
+opened_by : (v : Verdict Refusal) → ◌≡◌ {A = Result ⊤ Refusal} (Ok tt) (settle v Err (Ok tt)) → v ≡ passed
 opened_by passed e = cc
 opened_by (refused q) e = absurd (let z : ◌≡◌ {A = ℕ} 0 1 = cc in omega arith)
 

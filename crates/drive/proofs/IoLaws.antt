@@ -14,7 +14,7 @@ use Rattle.rules.specs.declared.Command.{Command}
 use Rattle.rules.specs.declared.Registers.{Registers}
 use Rattle.rules.specs.declared.Refusal.{Refusal}
 use Rattle.std.specs.Prelude.{Option, Some, None, Result, Ok, Err}
-use Rattle.rules.specs.Answer.{Done}
+use Rattle.rules.specs.declared.Granted.TheVariants.{Done}
 use Rattle.rules.specs.Numbers.{blocks_each, uid_most, slot_width, slot_places, mark_width, mark_places, store_size}
 use Rattle.rules.specs.View.{view_of, managed, tag_above}
 use Rattle.rules.specs.Checks.{Check, ◌when◌, Verdict, passed, refused, first_refusal, settle, judged, only_if, AllPass}
@@ -54,6 +54,10 @@ opened false false = (refl, refl)
 pub opens : (c : Command) (a : Result Access Refusal) → a ≡ access_of c.opcode → Opens (is_write c) (is_reading c) a
 unfolding access_of
 opens c a e = rw e (opened (is_write c) (is_reading c))
+
+pub known_by : (c : Command) (a : Access) → Opens (is_write c) (is_reading c) (Ok a) → Known c a
+known_by c Write e = e
+known_by c Read e = e
 
 -- ------------------------------------------------------------------------
 -- The kept identity in the slot

@@ -1,6 +1,7 @@
 -- What the tests and the calls of the frames on keys say, in the rules' words.
 -- Assumes nothing.
 use Rattle.std.proofs.Common.{◌≡◌, ℕ, ◌-◌, ◌<◌, Bool, true, false, cond, not, ◌&&◌, eqb, List, [], ◌∷◌, ◌++◌, length, take}
+use Rattle.std.proofs.Common.{◌||◌, ltb, lt-ltb}
 use Rattle.std.proofs.Common.{drop, sym, refl, ap, ◌∙◌, ap₂, arith, length-append, length-drop, take_at, eq-eqb, ne_eqb}
 use borrow.Author.Tests.{not-true, not-false}
 use Rattle.cells.specs.Cells.{zeros, cell, fill}
@@ -11,18 +12,23 @@ use Rattle.rules.specs.declared.Registers.{Registers}
 use Rattle.rules.specs.declared.BootLocks.{BootLocks}
 use Rattle.rules.specs.declared.Granted.TheVariants.{Done}
 use Rattle.rules.specs.Locks.{both_locked}
-use Rattle.rules.specs.Numbers.{namespaces, blocks_each, slot_width, slot_places, slots_size, kek_size, cache_size, mark_width, store_size}
+use Rattle.rules.specs.Numbers.{namespaces, tags_most, blocks_each, slot_width, slot_places, slots_size, kek_size, cache_size, mark_width, store_size}
 use Rattle.rules.specs.View.{view_of, managed}
-use Rattle.rules.specs.State.{wrong_cache, wrong_store, no_namespace, count}
+use Rattle.rules.specs.State.{Outcome, wrong_cache, wrong_store, no_namespace, count}
 use Rattle.rules.specs.Slots.{empty, loaded, uid_of}
 use Rattle.rules.specs.Marks.{block_of, never_written}
-use Rattle.rules.specs.Start.{fresh_registers, fresh_cache, emptied_cache, start}
+use Rattle.rules.specs.Start.{fresh_registers, fresh_cache, emptied_cache, fresh_with, fresh, start}
 use Rattle.marks.specs.Store.{zeroed}
 use Rattle.slots.specs.Cache.{slot_at, cleared_all}
 use Rattle.rules.proofs.StateLaws.{right_cache}
 use Rattle.slots.proofs.CacheLaws.{slot_is, cleared_all_zeros}
-use Rattle.drive.specs.declared.Answered.{Answered}
-use Rattle.drive.specs.Acting.{state, outcome}
+use Rattle.std.specs.Prelude.{Ok, Err}
+use Rattle.rules.specs.Answer.{Answer}
+use Rattle.rules.specs.declared.Refusal.{Refusal}
+use Rattle.rules.specs.Checks.{Check, ◌when◌, judged}
+use Rattle.rules.specs.Answers.{07·0D, 07·0E}
+use Rattle.drive.specs.Acting as acting
+use Rattle.drive.specs.Acting.{state, outcome, Zeroed}
 use Rattle.drive.proofs.ActingLaws.{uid_only}
 
 -- a namespace is managed by its count
@@ -32,6 +38,10 @@ module _ (d : Registers) (ns : Namespace) (n : ℕ) (is : n ≡ count (state d [
 
   pub unmanaged_by : n ≡ 0 → managed (view_of (state d [] [])) ns ≡ false
   unmanaged_by none = ap not (eq-eqb (count (state d [] []) ns) 0 (sym is ∙ none))
+
+-- too many tags
+pub bad_tags : (n : ℕ) → tags_most < n → eqb n 0 || ltb tags_most n ≡ true
+bad_tags n h = rw (ne_eqb n 0 (λ z. omega arith), lt-ltb tags_most n h)
 
 -- a slot of a cache of the right length, by what the cache's own tests answer
 module _ (keys : List ℕ) (size : length keys ≡ cache_size) (place : ℕ) (inside : place < slot_places) where
@@ -88,13 +98,32 @@ no_counts : 0 ∷ 0 ∷ 0 ∷ 0 ∷ [] ≡ zeros namespaces
 unfolding zeros
 no_counts = refl
 
-pub started : (kek keys marks : List ℕ) (r : Answered) (cache store : List ℕ) (locks : BootLocks)
-    → r ≡ record { answer = Ok Done; registers = record { counts = 0 ∷ 0 ∷ 0 ∷ 0 ∷ []; locks = locks } } → locks ≡ both_locked
-    → cache ≡ emptied_cache kek keys → store ≡ zeros store_size
-    → wrong_cache keys ≡ false → wrong_store marks ≡ false → outcome r cache store ≡ start kek keys marks
-unfolding start fresh_registers
-started kek keys marks r cache store locks e l k m right whole =
-    let fresh_cache_lem : cache ≡ fresh_cache kek = k ∙ ap (λ b. cond b keys (fresh_cache kek)) right in
-    let first : r ≡ record { answer = Ok Done; registers = record { counts = zeros namespaces; locks = both_locked } } =
-    e ∙ (λ i. record { answer = Ok Done; registers = record { counts = no_counts i; locks = l i } }) in
-    (λ i. outcome (first i) (fresh_cache_lem i) (m i)) ∙ (rw (whole, right))
+-- whether a cache is wrong is by its length
+pub zeroed_by_length : (k keys marks : List ℕ) → length k ≡ length keys → acting.zeroed k marks ≡ acting.zeroed keys marks
+unfolding acting.zeroed
+zeroed_by_length k keys marks e =
+    ap (λ n. judged (07·0D when wrong_store marks ∷ 07·0E when not (eqb n cache_size) ∷ []) (λ r. record { answer = Err r; marks = marks })
+    (record { answer = Ok Done; marks = zeros store_size })) e
+
+pub started : (kek keys marks : List ℕ) (locks : BootLocks) (cache : List ℕ) (a : Answer) (store : List ℕ) → locks ≡ both_locked
+    → cache ≡ emptied_cache kek keys → ◌≡◌ {A = Zeroed} (record { answer = a; marks = store }) (acting.zeroed keys marks)
+    → outcome a (record { counts = 0 ∷ 0 ∷ 0 ∷ 0 ∷ []; locks = locks }) cache store ≡ start kek keys marks
+unfolding start fresh_registers acting.zeroed
+started kek keys marks locks cache a store l k z =
+    let registers : record { counts = 0 ∷ 0 ∷ 0 ∷ 0 ∷ []; locks = locks } ≡ fresh_registers = (λ i. record { counts = no_counts i; locks = l i }) in
+    (λ i. outcome a (registers i) (k i) store)
+    ∙ ap (λ (w : Zeroed). outcome w.answer fresh_registers (emptied_cache kek keys) w.marks) z
+    ∙ by (wrong_store marks) (wrong_cache keys) refl
+  where
+    checks : Bool → Bool → List (Check Refusal)
+    checks s c = 07·0D when s ∷ 07·0E when c ∷ []
+
+    left : Zeroed → Outcome
+    left w = outcome w.answer fresh_registers (emptied_cache kek keys) w.marks
+
+    by : (s c : Bool) → wrong_cache keys ≡ c
+        → left (judged (checks s c) (λ r. record { answer = Err r; marks = marks }) (record { answer = Ok Done; marks = zeros store_size }))
+        ≡ judged (checks s c) (λ r. record { answer = Err r; state = fresh_with (emptied_cache kek keys) marks }) (record { answer = Ok Done; state = fresh kek })
+    by true c e = refl
+    by false true e = refl
+    by false false e = ap (λ b. outcome (Ok Done) fresh_registers (cond b keys (fresh_cache kek)) (zeros store_size)) e

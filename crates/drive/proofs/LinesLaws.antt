@@ -1,20 +1,13 @@
 -- The lines of a text, cut where the code cuts them; and the room that their
 -- answers may need.
 -- Assumes nothing.
-use Rattle.std.proofs.Common.{◌≡◌, ℕ, suc, ◌+◌, ◌-◌, ◌<◌, ◌≤◌, Bool, true, false, cond, List, [], ◌∷◌, ◌++◌, length}
-use Rattle.std.proofs.Common.{get_or, take, drop, sym, refl, ap, ◌∙◌, add-one, arith, length-drop, take-append-drop, drop_of_length-le, take_all}
-use Rattle.std.proofs.Common.{drop-cons, drop-drop, ne_eqb}
-use mathlib.Core.Logic.{by_cases}
-use native.Mathlib.Decide.{dec_lt}
-use Rattle.cells.specs.Cells.{part}
-use Rattle.cells.proofs.CellsLaws.{length_part, get_d_part}
+use Rattle.std.proofs.Common.{◌≡◌, ℕ, suc, ◌+◌, ◌<◌, ◌≤◌, Bool, true, false, cond, eqb, List, [], ◌∷◌, ◌++◌, length, get_or, take, drop, sym, refl}
+use Rattle.std.proofs.Common.{ap, ◌∙◌, add-one, arith, take-append-drop, drop_of_length-le, take_all, drop-cons, ne_eqb, eq-eqb, eqb-true, length-take-le}
+use lib.Seq.{get_or-take}
 use Rattle.rules.specs.Answers.{line_feed}
-use Rattle.cells.specs.Predicates.{same}
-use Rattle.cells.proofs.PredicatesLaws.{same_eq}
-use Rattle.rules.specs.Numbers.{answer_most, discovery_most}
-use Rattle.rules.specs.Call.{discovery_line, room_for}
+use Rattle.rules.specs.Call.{room_for}
 use Rattle.rules.specs.Sessions.{joined, lines_of, room_for_all}
-use Rattle.drive.specs.Lines.{NoFeed, LineAt}
+use Rattle.memchr.specs.Find.{NoneBefore, Nowhere, Passes, is_byte}
 
 abbrev Feedless : List ℕ → Type 0
 Feedless p = (i : ℕ) → i < length p → get_or p i 0 ≡ line_feed → ⊥
@@ -38,95 +31,74 @@ some_last : (p : List ℕ) → 0 < length p → Feedless p → lines_of p ≡ p 
 some_last [] l h = absurd (omega arith)
 some_last (b ∷ p) l h = last_line b p h
 
-pub no_lines : (text : List ℕ) (at : ℕ) → length text ≤ at → lines_of (drop at text) ≡ []
-unfolding lines_of
-no_lines text at h = rw (drop_of_length-le text h)
+-- no line feed stands before z
+abbrev NoFeed : List ℕ → ℕ → Type 0
+NoFeed text z = (k : ℕ) → k < z → get_or text k 0 ≡ line_feed → ⊥
 
-module _ (text : List ℕ) (at i : ℕ) (starts : at ≤ i) (clean : NoFeed text at i) where
-  clean_part : i ≤ length text → Feedless (part at (i - at) text)
-  clean_part h k l e =
-      let n = length_part at (i - at) text (omega arith) in
-      clean (at + k) (omega arith) (omega arith) (sym (get_d_part at (i - at) k text (omega arith)) ∙ e)
-
-  rest_at : drop (i - at) (drop at text) ≡ drop i text
-  rest_at = let e : at + (i - at) ≡ i = omega arith in drop-drop (i - at) at text ∙ ap (λ k. drop k text) e
-
-  cut_at : i < length text → get_or text i 0 ≡ line_feed → drop at text ≡ part at (i - at) text ++ (line_feed ∷ drop (i + 1) text)
-  unfolding part
-  cut_at h e =
-      sym (take-append-drop (i - at) (drop at text))
-      ∙ ap (λ z. take (i - at) (drop at text) ++ z)
-      (rest_at ∙ drop-cons text i 0 h ∙ ap (λ b. b ∷ drop (suc i) text) e ∙ ap (λ k. line_feed ∷ drop k text) (sym (add-one i)))
-
-  all_at : i ≡ length text → drop at text ≡ part at (i - at) text
-  unfolding part
-  all_at e = sym (take_all (i - at) (drop at text) (simp length-drop (omega arith)))
+module _ (text : List ℕ) (i : ℕ) (clean : NoFeed text i) where
+  clean_front : i ≤ length text → Feedless (take i text)
+  clean_front h k l e =
+      let n = length-take-le i text h in
+      clean k (omega arith) (sym (get_or-take i text k 0 (omega arith)) ∙ e)
 
   -- a line feed stands at i
-  pub fed : i < length text → get_or text i 0 ≡ line_feed → LineAt text at i (i + 1)
+  fed : i < length text → get_or text i 0 ≡ line_feed → lines_of text ≡ take i text ∷ lines_of (drop (i + 1) text)
   fed h e =
-      let cut : drop at text ≡ part at (i - at) text ++ (line_feed ∷ drop (i + 1) text) = cut_at h e in
-      record {
-        starts = starts;
-        ends = omega arith;
-        goes_on = omega arith;
-        within = omega arith;
-        splits = ap lines_of cut ∙ line_then (part at (i - at) text) (drop (i + 1) text) (clean_part (omega arith));
-      }
+      let cut : text ≡ take i text ++ (line_feed ∷ drop (i + 1) text) =
+      sym (take-append-drop i text)
+      ∙ ap (λ z. take i text ++ z) (drop-cons text i 0 h ∙ ap (λ b. b ∷ drop (suc i) text) e ∙ ap (λ k. line_feed ∷ drop k text) (sym (add-one i))) in
+      ap lines_of cut ∙ line_then (take i text) (drop (i + 1) text) (clean_front (omega arith))
 
   -- the text ends at i
-  pub ended : at < i → i ≡ length text → LineAt text at i i
+  ended : 0 < length text → i ≡ length text → lines_of text ≡ take i text ∷ lines_of (drop i text)
+  unfolding lines_of
   ended s e =
-      let some : 0 < length (part at (i - at) text) = omega (arith, length_part at (i - at) text (omega arith)) in
-      record {
-        starts = starts;
-        ends = omega arith;
-        goes_on = s;
-        within = omega arith;
-        splits = ap lines_of (all_at e) ∙ some_last (part at (i - at) text) some (clean_part (omega arith))
-            ∙ ap (λ l. part at (i - at) text ∷ l) (sym (no_lines text i (omega arith)));
-      }
+      let n = length-take-le i text (omega arith) in
+      ap lines_of (sym (take_all i text (omega arith)))
+      ∙ some_last (take i text) (omega arith) (clean_front (omega arith))
+      ∙ ap (λ l. take i text ∷ lines_of l) (sym (drop_of_length-le text (omega arith)))
 
--- one byte more that is no line feed
-pub clean_more : (text : List ℕ) (at i : ℕ) → NoFeed text at i → (get_or text i 0 ≡ line_feed → ⊥) → NoFeed text at (i + 1)
-clean_more text at i h n k a b e =
-    by_cases (dec_lt k i) (λ l. h k a l e) (λ g. let q : k ≡ i = omega arith in n (ap (λ j. get_or text j 0) (sym q) ∙ e))
+-- the first line, by the search for a line feed
+module _ (text : List ℕ) where
+  pub line_found : (k : ℕ) → NoneBefore (Passes (is_byte line_feed) text) 0 (length text) k × Passes (is_byte line_feed) text k
+      → lines_of text ≡ take k text ∷ lines_of (drop (k + 1) text)
+  line_found k f = fed text k (λ j l e. f.0.before j (omega arith) l (eq-eqb _ _ e)) f.0.high (eqb-true _ _ f.1)
 
--- a clean stretch, and another behind it
-pub clean_both : (text : List ℕ) (at i j : ℕ) → NoFeed text at i → NoFeed text i j → NoFeed text at j
-clean_both text at i j h g k a b e = by_cases (dec_lt k i) (λ l. h k a l e) (λ n. g k (omega arith) b e)
+  pub last_found : 0 < length text → Nowhere (Passes (is_byte line_feed) text) 0 (length text)
+      → lines_of text ≡ text ∷ lines_of (drop (length text) text)
+  last_found s n =
+      ended text (length text) (λ j l e. n j (omega arith) l (eq-eqb _ _ e)) s refl
+      ∙ ap (λ l. l ∷ lines_of (drop (length text) text)) (take_all (length text) text (omega arith))
 
 -- ------------------------------------------------------------------------
--- Room
+-- A text has no more lines than bytes
 
--- the room that the lines from `at` on may need
-abbrev pub room_from : List ℕ → ℕ → ℕ
-room_from text at = room_for_all (lines_of (drop at text))
+joined_length : (b : ℕ) (ls : List (List ℕ)) → length (joined b ls) ≤ suc (length ls)
+joined_length b [] = omega arith
+joined_length b (l ∷ ls) = omega arith
 
-pub no_room : (text : List ℕ) (at : ℕ) → length text ≤ at → room_from text at ≡ 0
-unfolding room_for_all
-no_room text at h = ap room_for_all (no_lines text at h)
+one_more : (b : ℕ) (text : List ℕ) (feed : Bool) → length (lines_of text) ≤ length text
+    → length (cond feed ([] ∷ lines_of text) (joined b (lines_of text))) ≤ suc (length text)
+one_more b text true h = omega arith
+one_more b text false h = omega (arith, joined_length b (lines_of text))
 
--- a line's, and that of the lines behind it
-pub room_splits : (text : List ℕ) (at end next : ℕ) → LineAt text at end next
-    → room_from text at ≡ room_for (part at (end - at) text) + room_from text next
-unfolding room_for_all
-room_splits text at end next l = ap room_for_all l.splits
+pub few_lines : (text : List ℕ) → length (lines_of text) ≤ length text
+unfolding lines_of
+few_lines [] = omega arith
+few_lines (b ∷ text) = one_more b text (eqb b line_feed) (few_lines text)
 
 -- ------------------------------------------------------------------------
--- One line's room
+-- Room: of the first line and of those behind it
 
-pub room_other : (line : List ℕ) → (line ≡ discovery_line → ⊥) → answer_most ≡ room_for line
-unfolding room_for
-room_other line n = by (same line discovery_line) refl
-  where
-    by : (b : Bool) → same line discovery_line ≡ b → answer_most ≡ cond b discovery_most answer_most
-    by true e = absurd (n (same_eq line discovery_line e))
-    by false e = refl
+pub room_line : {all : List (List ℕ)} {line : List ℕ} {left : List (List ℕ)} → all ≡ line ∷ left → room_for_all all ≡ room_for line + room_for_all left
+unfolding room_for_all
+room_line e = ap room_for_all e
 
-pub room_discovery : (line : List ℕ) → length line ≡ 2 → get_or line 0 0 ≡ 0x30 → get_or line 1 0 ≡ 0x43 → discovery_most ≡ room_for line
-unfolding room_for same
-room_discovery [] n a b = absurd (omega arith)
-room_discovery (x ∷ []) n a b = absurd (omega arith)
-room_discovery (x ∷ y ∷ []) n a b = rw (a, b)
-room_discovery (x ∷ y ∷ z ∷ line) n a b = absurd (omega arith)
+pub room_none : {all : List (List ℕ)} → all ≡ [] → room_for_all all ≡ 0
+unfolding room_for_all
+room_none e = ap room_for_all e
+
+pub no_lines : (text : List ℕ) → length text ≡ 0 → lines_of text ≡ []
+unfolding lines_of
+no_lines [] e = refl
+no_lines (b ∷ text) e = absurd (omega arith)

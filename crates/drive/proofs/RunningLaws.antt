@@ -1,8 +1,8 @@
 -- What holds after each line of a session.
 -- Assumes nothing.
-use Rattle.std.proofs.Common.{◌≡◌, ℕ, ◌+◌, ◌-◌, ◌≤◌, List, [], ◌∷◌, ◌++◌, length, take, drop, sym, refl, ap, ◌∙◌}
+use Rattle.std.proofs.Common.{◌≡◌, ℕ, ◌+◌, ◌-◌, ◌<◌, ◌≤◌, Ok, List, [], ◌∷◌, ◌++◌, length, take, drop, sym, refl, ap, ◌∙◌}
 use Rattle.std.proofs.Common.{append_assoc, append-nil, arith, length-drop, take-append-drop, length-take-le, drop-drop, le-leb}
-use Rattle.cells.specs.Cells.{part, write}
+use Rattle.cells.specs.Cells.{write}
 use Rattle.cells.proofs.CellsLaws.{lent_rest, back_rest, length_write, drop_write, write_end}
 use Rattle.rules.specs.declared.Granted.TheVariants.{Done}
 use Rattle.rules.specs.declared.Registers.{Registers}
@@ -14,10 +14,9 @@ use Rattle.rules.specs.Sessions.{lines_of, end_state, answers_to, answer_lines, 
 use Rattle.rules.proofs.Promised.{sound_kept}
 use Rattle.rules.proofs.SayableLaws.{answer_fits}
 use Rattle.digits.specs.Digits.{Wrote, wrote}
-use Rattle.drive.specs.declared.Answered.{Answered}
+use Rattle.rules.specs.Answer.{Answer}
 use Rattle.drive.specs.Acting.{state, outcome, Ready}
-use Rattle.drive.specs.Lines.{LineAt}
-use Rattle.drive.proofs.LinesLaws.{no_lines, room_from, room_splits}
+use Rattle.drive.proofs.LinesLaws.{few_lines}
 
 -- ------------------------------------------------------------------------
 -- An answer's line in its room
@@ -41,16 +40,14 @@ replied s line out o w e h q =
     ∙ ap (λ (x : Outcome). record { answer = x.answer; state = x.state; bytes = length (text x); out = written (text x) out }) e
 
 -- ------------------------------------------------------------------------
--- After some lines of a session: where it stands, and that what is left of it completes the whole
+-- After some lines of a session: what is left of it completes the whole
 
-pub record Mid (s₀ : State) (text out₀ : List ℕ) (s : State) (at lines bytes : ℕ) (out : List ℕ) : Type 0 where
-  pub within : at ≤ length text
+pub record Mid (s₀ : State) (text out₀ : List ℕ) (s : State) (left : List (List ℕ)) (lines bytes : ℕ) (out : List ℕ) : Type 0 where
   pub size : length out ≡ length out₀
-  pub counted : lines + length (lines_of (drop at text)) ≡ length (lines_of text)
-  pub few : lines ≤ at
-  pub room : bytes + room_from text at ≤ length out
-  pub ends : end_state s (lines_of (drop at text)) ≡ end_state s₀ (lines_of text)
-  pub told : take bytes out ++ answer_lines (answers_to s (lines_of (drop at text))) ≡ answer_lines (answers_to s₀ (lines_of text))
+  pub counted : lines + length left ≡ length (lines_of text)
+  pub room : bytes + room_for_all left ≤ length out
+  pub ends : end_state s left ≡ end_state s₀ (lines_of text)
+  pub told : take bytes out ++ answer_lines (answers_to s left) ≡ answer_lines (answers_to s₀ (lines_of text))
   pub rest : drop bytes out ≡ drop bytes out₀
 
 end_cons : (s : State) (line : List ℕ) (lines : List (List ℕ)) → end_state (step s line).state lines ≡ end_state s (line ∷ lines)
@@ -75,94 +72,82 @@ unfolding answer_lines answers_to
 saying_nil s = refl
 
 module _ (s₀ : State) (text out₀ : List ℕ) where
-  pub mid_none : room_for_all (lines_of text) ≤ length out₀ → Mid s₀ text out₀ s₀ 0 0 0 out₀
+  pub mid_none : room_for_all (lines_of text) ≤ length out₀ → Mid s₀ text out₀ s₀ (lines_of text) 0 0 out₀
   mid_none h = record {
-    within = omega arith;
     size = refl;
     counted = omega arith;
-    few = omega arith;
     room = omega arith;
     ends = refl;
     told = refl;
     rest = refl;
   }
 
-  module _ (s : State) (at lines bytes : ℕ) (out : List ℕ) (m : Mid s₀ text out₀ s at lines bytes out) where
-    module _ (end next : ℕ) (l : LineAt text at end next) where
-      abbrev line : List ℕ
-      line = part at (end - at) text
+  -- at a line, with others behind it
+  module _ (s : State) (line : List ℕ) (left : List (List ℕ)) (lines bytes : ℕ) (out : List ℕ) (m : Mid s₀ text out₀ s (line ∷ left) lines bytes out) where
+    -- room for one answer more
+    pub room_more : bytes + room_for line ≤ length out
+    unfolding room_for_all
+    room_more = let r = m.room in omega arith
 
-      -- room for one answer more
-      pub room_more : bytes + room_for line ≤ length out
-      room_more =
+    -- and the lines are no more than the text has bytes
+    pub few : lines < length text
+    few = let c = m.counted in let k = few_lines text in omega arith
+
+    module _ (o : Outcome) (e : o ≡ step s line) where
+      abbrev said : List ℕ
+      said = answer_line o.answer
+
+      -- and its line fits
+      pub fits : bytes + length said + room_for_all left ≤ length out
+      unfolding room_for_all
+      fits =
           let r = m.room in
-          let n = room_splits text at end next l in
+          let small = answer_fits s line in
+          let same : length said ≡ length (answer_line (step s line).answer) = ap (λ (x : Outcome). length (answer_line x.answer)) e in
           omega arith
 
-      module _ (o : Outcome) (e : o ≡ step s line) where
-        abbrev said : List ℕ
-        said = answer_line o.answer
+      pub mid_more : Mid s₀ text out₀ o.state left (lines + 1) (bytes + length said) (write bytes (length said) said out)
+      mid_more =
+          let f = fits in
+          let z = m.size in
+          let c = m.counted in
+          let n : ℕ = length said in
+          let whole : length (write bytes n said out) ≡ length out = length_write bytes n said out (omega arith) refl in
+          record {
+            size = whole ∙ z;
+            counted = omega arith;
+            room = omega arith;
+            ends = ap (λ (x : Outcome). end_state x.state left) e ∙ end_cons s line left ∙ m.ends;
+            told = ap (λ t. t ++ saying o.state left) (write_end bytes n said out (omega arith) refl)
+                ∙ append_assoc (take bytes out) said (saying o.state left)
+                ∙ ap (λ t. take bytes out ++ t)
+                (ap (λ (x : Outcome). answer_line x.answer ++ saying x.state left) e ∙ saying_cons s line left)
+                ∙ m.told;
+            rest = drop_write bytes n said out (omega arith) refl (bytes + n) (omega arith)
+                ∙ (sym (drop-drop n bytes out) ∙ ap (drop n) m.rest ∙ drop-drop n bytes out₀);
+          }
 
-        -- and its line fits
-        pub fits : bytes + length said + room_from text next ≤ length out
-        fits =
-            let r = m.room in
-            let n = room_splits text at end next l in
-            let small = answer_fits s line in
-            let same : length said ≡ length (answer_line (step s line).answer) = ap (λ (x : Outcome). length (answer_line x.answer)) e in
-            omega arith
-
-        pub mid_more : Mid s₀ text out₀ o.state next (lines + 1) (bytes + length said) (write bytes (length said) said out)
-        mid_more =
-            let f = fits in
-            let z = m.size in
-            let c = m.counted in
-            let few = m.few in
-            let on = l.goes_on in
-            let h = ap length l.splits in
-            let left : List (List ℕ) = lines_of (drop next text) in
-            let n : ℕ = length said in
-            let whole : length (write bytes n said out) ≡ length out = length_write bytes n said out (omega arith) refl in
-            record {
-              within = l.within;
-              size = whole ∙ z;
-              counted = omega arith;
-              few = omega arith;
-              room = omega arith;
-              ends = ap (λ (x : Outcome). end_state x.state left) e ∙ end_cons s line left ∙ ap (end_state s) (sym l.splits) ∙ m.ends;
-              told = ap (λ t. t ++ saying o.state left) (write_end bytes n said out (omega arith) refl)
-                  ∙ append_assoc (take bytes out) said (saying o.state left)
-                  ∙ ap (λ t. take bytes out ++ t)
-                  (ap (λ (x : Outcome). answer_line x.answer ++ saying x.state left) e ∙ saying_cons s line left ∙ ap (saying s) (sym l.splits))
-                  ∙ m.told;
-              rest = drop_write bytes n said out (omega arith) refl (bytes + n) (omega arith)
-                  ∙ (sym (drop-drop n bytes out) ∙ ap (drop n) m.rest ∙ drop-drop n bytes out₀);
-            }
-
-    pub mid_end : length text ≤ at
-        → ◌≡◌ {A = Session} (record { result = Ok Done; state = s; lines = lines; bytes = bytes; out = out }) (all_answered s₀ text out₀)
-    unfolding all_answered
-    mid_end h =
-        let none = no_lines text at h in
-        let c = m.counted in
-        let len = ap length none in
-        let r = m.room in
-        let whole : List ℕ = saying s₀ (lines_of text) in
-        let all : take bytes out ≡ whole =
-        sym (append-nil (take bytes out)) ∙ ap (λ t. take bytes out ++ t) (saying_nil s ∙ ap (saying s) (sym none)) ∙ m.told in
-        let end : s ≡ end_state s₀ (lines_of text) = end_nil s ∙ ap (end_state s) (sym none) ∙ m.ends in
-        let count : lines ≡ length (lines_of text) = omega arith in
-        let inside : bytes ≤ length out = omega arith in
-        let size : bytes ≡ length whole = sym (length-take-le bytes out inside) ∙ ap length all in
-        let last : out ≡ written whole out₀ =
-        sym (take-append-drop bytes out)
-        ∙ ap (λ t. t ++ drop bytes out) all
-        ∙ ap (λ t. whole ++ t) m.rest
-        ∙ ap (λ k. whole ++ drop k out₀) size in
-        ap (λ x. record { result = Ok Done; state = x; lines = lines; bytes = bytes; out = out }) end
-        ∙ ap (λ x. record { result = Ok Done; state = end_state s₀ (lines_of text); lines = x; bytes = bytes; out = out }) count
-        ∙ ap (λ x. record { result = Ok Done; state = end_state s₀ (lines_of text); lines = length (lines_of text); bytes = x; out = out }) size
-        ∙ ap (λ x. record { result = Ok Done; state = end_state s₀ (lines_of text); lines = length (lines_of text); bytes = length whole; out = x }) last
+  pub mid_end : (s : State) (lines bytes : ℕ) (out : List ℕ) → Mid s₀ text out₀ s [] lines bytes out
+      → ◌≡◌ {A = Session} (record { result = Ok Done; state = s; lines = lines; bytes = bytes; out = out }) (all_answered s₀ text out₀)
+  unfolding all_answered
+  mid_end s lines bytes out m =
+      let c = m.counted in
+      let r = m.room in
+      let whole : List ℕ = saying s₀ (lines_of text) in
+      let all : take bytes out ≡ whole = sym (append-nil (take bytes out)) ∙ ap (λ t. take bytes out ++ t) (saying_nil s) ∙ m.told in
+      let end : s ≡ end_state s₀ (lines_of text) = end_nil s ∙ m.ends in
+      let count : lines ≡ length (lines_of text) = omega arith in
+      let inside : bytes ≤ length out = omega arith in
+      let size : bytes ≡ length whole = sym (length-take-le bytes out inside) ∙ ap length all in
+      let last : out ≡ written whole out₀ =
+      sym (take-append-drop bytes out)
+      ∙ ap (λ t. t ++ drop bytes out) all
+      ∙ ap (λ t. whole ++ t) m.rest
+      ∙ ap (λ k. whole ++ drop k out₀) size in
+      ap (λ x. record { result = Ok Done; state = x; lines = lines; bytes = bytes; out = out }) end
+      ∙ ap (λ x. record { result = Ok Done; state = end_state s₀ (lines_of text); lines = x; bytes = bytes; out = out }) count
+      ∙ ap (λ x. record { result = Ok Done; state = end_state s₀ (lines_of text); lines = length (lines_of text); bytes = x; out = out }) size
+      ∙ ap (λ x. record { result = Ok Done; state = end_state s₀ (lines_of text); lines = length (lines_of text); bytes = length whole; out = x }) last
 
 -- the rest of the output comes back with an answer's line at its front
 module _ (s : State) (line out last : List ℕ) (o : Outcome) (e : o ≡ step s line) (bytes r : ℕ) (room : bytes + room_for line ≤ length out)
@@ -190,9 +175,9 @@ module _ (s : State) (line out last : List ℕ) (o : Outcome) (e : o ≡ step s 
       ∙ ap (λ x. take bytes out ++ (text ++ drop (length text) x)) (lent_rest bytes out)
 
 -- a step keeps a state ready for the next
-pub ready_next : (d : Registers) (keys marks line : List ℕ) (r : Answered) (keys' marks' : List ℕ) → Ready d keys marks
-    → outcome r keys' marks' ≡ step (state d keys marks) line → Ready r.registers keys' marks'
-ready_next d keys marks line r keys' marks' ready e =
+pub ready_next : (d : Registers) (keys marks line : List ℕ) (a : Answer) (d' : Registers) (keys' marks' : List ℕ) → Ready d keys marks
+    → outcome a d' keys' marks' ≡ step (state d keys marks) line → Ready d' keys' marks'
+ready_next d keys marks line a d' keys' marks' ready e =
     let k = sound_kept (state d keys marks) line ready.sized ready.sound in
-    let same : (step (state d keys marks) line).state ≡ state r.registers keys' marks' = ap (λ (o : Outcome). o.state) (sym e) in
+    let same : (step (state d keys marks) line).state ≡ state d' keys' marks' = ap (λ (o : Outcome). o.state) (sym e) in
     record { sized = rw same at k.0; sound = rw same at k.1 }

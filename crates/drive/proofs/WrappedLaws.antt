@@ -23,7 +23,7 @@ use Rattle.rules.proofs.AesLaws.{unwrap_length}
 use Rattle.rules.proofs.ChecksLaws.{judged_pass}
 use Rattle.rules.proofs.WrappedLaws.{wrapped_rule, wrapped_is, wrapped_first, loads_clear}
 use Rattle.wrap.specs.Wrapping.{told, opened_in}
-use Rattle.drive.specs.declared.Found.TheVariants as found
+use Rattle.std.specs.Prelude.{Ok, Err}
 use Rattle.drive.specs.Acting.{state, replace_most, opened_at, located}
 use Rattle.drive.proofs.ActingLaws.{refused_by}
 
@@ -63,7 +63,7 @@ module _ (d : Registers) (keys marks : List ℕ) (ns : Namespace) (tag : Tag) (x
   unfolding frame_rule key_encryption_key
   by_rule = ap (obey s) (wrapped_is s ns tag x)
 
-  pub wrapped_refused : (r : Refusal) → found.Refused r ≡ located (state d [] []) ns tag → refuse s r ≡ obey s (load_wrapped (view_of s) ns tag x)
+  pub wrapped_refused : (r : Refusal) → Err r ≡ located (state d [] []) ns tag → refuse s r ≡ obey s (load_wrapped (view_of s) ns tag x)
   wrapped_refused r e = sym (by_rule ∙ wrapped_first s ns tag (with_uid x.uid (unwrap kek x.key)) ∙ refused_by d keys marks ns tag r _ e)
 
   pub wrapped_shut : AllPass (slot_checks (view_of (state d [] [])) ns tag) → unwrap kek x.key ≡ none

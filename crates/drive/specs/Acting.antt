@@ -8,7 +8,8 @@ use Rattle.rules.specs.declared.Tag.{Tag}
 use Rattle.rules.specs.declared.Command.{Command}
 use Rattle.rules.specs.declared.Registers.{Registers}
 use Rattle.rules.specs.declared.Refusal.{Refusal}
-use Rattle.rules.specs.Answer.{Answer, Done}
+use Rattle.rules.specs.Answer.{Answer}
+use Rattle.rules.specs.declared.Granted.TheVariants.{Done}
 use Rattle.rules.specs.Numbers.{slot_width, uid_most, key_size, store_size}
 use Rattle.rules.specs.View.{view_of, managed, other_key}
 use Rattle.rules.specs.Checks.{◌when◌, judged, only_if}
@@ -66,7 +67,7 @@ unfoldable pub zeroed : List ℕ → List ℕ → Zeroed
 zeroed keys marks =
     judged (start_checks keys marks)
     (λ r. record { answer = Err r; marks = marks })
-    (record { answer = Ok (Ok Done); marks = zeros store_size })
+    (record { answer = Ok Done; marks = zeros store_size })
 
 -- ------------------------------------------------------------------------
 -- The checks that release and clear all begin with, and load, replace and clear one
@@ -96,7 +97,7 @@ put_at s place x =
     (07·0C when other_key (view_of s).slots x
     ∷ [])
     (refuse s)
-    (record { answer = Ok (Ok Done); state = with_keys s (put slot_width place (slot_bytes x) s.keys) })
+    (record { answer = Ok Done; state = with_keys s (put slot_width place (slot_bytes x) s.keys) })
 
 unfoldable pub load_at : State → ℕ → Contents → Outcome
 load_at s place x =
@@ -121,7 +122,7 @@ clear_at s place =
     (07·0A when empty (cell slot_width place s.keys)
     ∷ [])
     (refuse s)
-    (record { answer = Ok (Ok Done); state = with_keys s (put slot_width place emptied s.keys) })
+    (record { answer = Ok Done; state = with_keys s (put slot_width place emptied s.keys) })
 
 -- ------------------------------------------------------------------------
 -- I/O

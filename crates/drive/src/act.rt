@@ -83,7 +83,8 @@ fn act(
         × (drop replace_most f.new ≡ drop replace_most f.old)
         × (words.old ≡ zeros schedule_words → words.new ≡ zeros schedule_words) }
 {
-    match read? {
+    let read = read?;
+    match read {
         FrameRead::Manage(ns, tags) => keys::manage(registers, ns, tags),
         FrameRead::Release(ns) => keys::release(registers, keys, marks, ns),
         FrameRead::Load(ns, tag, l) => load(registers, keys, f, ns, tag, l),
@@ -131,7 +132,14 @@ pub(crate) fn on_line(
         × (scratch.new.brought ≡ zeros (uid_most + key_size)) }
 {
     let read = frames::read(line, &mut scratch.frame, &mut scratch.brought);
-    let answer = act(registers, keys, marks, &mut scratch.frame, read, &mut scratch.words);
+    let answer = act(
+        registers,
+        keys,
+        marks,
+        &mut scratch.frame,
+        read,
+        &mut scratch.words,
+    );
     wipe(&mut scratch.frame, line);
     answer
 }

@@ -60,7 +60,7 @@ fn reach(registers: &Registers, keys: &[u8], c: Command) -> Result<Option<usize>
     }
     match count(registers, c.ns) {
         0 => Ok(None),
-        n => key_place(registers, keys, c, n).map(Some),
+        n => Ok(Some(key_place(registers, keys, c, n)?)),
     }
 }
 

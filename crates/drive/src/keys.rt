@@ -10,7 +10,9 @@ ghost use Rattle.drive.specs.Acting.{state, outcome, Ready, Sound, put_at, load_
 
 use crate::answers::{count, locate, managed, no_namespace, set_count};
 use crate::contents::Contents;
-use rules::{Answer, Granted, NAMESPACES, Namespace, POOL_SLOTS, Refusal, Registers, TAGS_MOST, Tag};
+use rules::{
+    Answer, Granted, NAMESPACES, Namespace, POOL_SLOTS, Refusal, Registers, TAGS_MOST, Tag,
+};
 
 fn total(counts: &[u8; NAMESPACES]) -> usize
     ensures { (result ≡ total_of counts.now) × (result ≤ 1020) }
@@ -73,7 +75,7 @@ pub(crate) fn clear_all(registers: &Registers, keys: &mut [u8], ns: Namespace) -
 // 07 0C. In a sound state only allocated tags have a loaded slot, so that no other is looked at.
 fn other_key(registers: &Registers, keys: &[u8], x: Contents) -> bool
     requires { Sound registers.now keys.now }
-    ensures { result ≡ other_key (view_of (state registers.now keys.now [])).slots (contents x.uid.now x.key.now) }
+    ensures { result ≡ other_key (view_of (state registers.now keys.now [])).slots (contents x.entry.uid.now x.entry.key.now) }
 {
     slots::other_key_allocated(registers.counts, keys, x.uid, x.key)
 }
@@ -82,7 +84,7 @@ fn other_key(registers: &Registers, keys: &[u8], x: Contents) -> bool
 fn put(registers: &Registers, keys: &mut [u8], place: usize, x: Contents) -> Answer
     requires { (place < slot_places) × Sound registers.now keys.old }
     ensures { (marks : List ℕ) → outcome result registers.now keys.new marks
-        ≡ put_at (state registers.now keys.old marks) place (contents x.uid.now x.key.now) }
+        ≡ put_at (state registers.now keys.old marks) place (contents x.entry.uid.now x.entry.key.now) }
 {
     if other_key(registers, keys, x) {
         return Err(Refusal::OtherKey);
@@ -94,7 +96,7 @@ fn put(registers: &Registers, keys: &mut [u8], place: usize, x: Contents) -> Ans
 fn load_at(registers: &Registers, keys: &mut [u8], place: usize, x: Contents) -> Answer
     requires { (place < slot_places) × Sound registers.now keys.old }
     ensures { (marks : List ℕ) → outcome result registers.now keys.new marks
-        ≡ load_at (state registers.now keys.old marks) place (contents x.uid.now x.key.now) }
+        ≡ load_at (state registers.now keys.old marks) place (contents x.entry.uid.now x.entry.key.now) }
 {
     if slots::loaded(keys, place) {
         return Err(Refusal::SlotOccupied);
@@ -112,7 +114,7 @@ pub(crate) fn load(
     requires { Sound registers.now keys.old }
     ensures { (marks : List ℕ) → outcome result registers.now keys.new marks
         ≡ obeys (state registers.now keys.old marks)
-        (λ v. loadRule v ns tag (contents x.uid.now x.key.now)) }
+        (λ v. loadRule v ns tag (contents x.entry.uid.now x.entry.key.now)) }
 {
     let place = locate(registers, ns, tag)?;
     load_at(registers, keys, place, x)
@@ -127,7 +129,7 @@ fn replace_at(
 ) -> Answer
     requires { (place < slot_places) × Sound registers.now keys.old }
     ensures { (marks : List ℕ) → outcome result registers.now keys.new marks
-        ≡ replace_at (state registers.now keys.old marks) place old.now (contents x.uid.now x.key.now) }
+        ≡ replace_at (state registers.now keys.old marks) place old.now (contents x.entry.uid.now x.entry.key.now) }
 {
     if !slots::loaded(keys, place) {
         return Err(Refusal::SlotEmpty);
@@ -149,7 +151,7 @@ pub(crate) fn replace(
     requires { Sound registers.now keys.old }
     ensures { (marks : List ℕ) → outcome result registers.now keys.new marks
         ≡ obeys (state registers.now keys.old marks)
-        (λ v. replaceRule v ns tag old.now (contents x.uid.now x.key.now)) }
+        (λ v. replaceRule v ns tag old.now (contents x.entry.uid.now x.entry.key.now)) }
 {
     let place = locate(registers, ns, tag)?;
     replace_at(registers, keys, place, old, x)

@@ -6,7 +6,7 @@ ghost use Rattle.std.specs.Prelude.{◌≡◌, ◌≤◌, length};
 ghost use Rattle.rules.specs.Start.{emptied_cache, start as started};
 ghost use Rattle.rules.specs.Call.{call, answered, room_for};
 ghost use Rattle.rules.specs.Sessions.{session};
-ghost use Rattle.drive.specs.Acting.{state, outcome, Ready};
+ghost use Rattle.drive.specs.Acting.{state, outcome, Ready, zeroed};
 
 mod act;
 mod admit;
@@ -83,7 +83,7 @@ fn zeroed(keys: &[u8], marks: &mut [u8]) -> Answer
 
 // Starts a fresh drive: a cache of the right length emptied, and then a store of the right length zeroed. What has another length stays.
 pub fn start(kek: &[u8; KEK_SIZE], keys: &mut [u8], marks: &mut [u8]) -> Answered
-    ensures { outcome result keys.new marks.new ≡ started kek.now keys.old marks.old }
+    ensures { outcome result.answer result.registers keys.new marks.new ≡ started kek.now keys.old marks.old }
 {
     emptied(kek, keys);
     let registers = Registers {

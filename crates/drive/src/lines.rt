@@ -23,10 +23,16 @@ impl<'a> Iterator for Lines<'a> {
         if text.is_empty() {
             return None;
         }
-        let end = memchr(b'\n', text).unwrap_or(text.len());
-        let next = text.len().min(end + 1);
-        self.0 = &text[next..];
-        Some(&text[..end])
+        match memchr(b'\n', text) {
+            Some(end) => {
+                self.0 = &text[end + 1..];
+                Some(&text[..end])
+            }
+            None => {
+                self.0 = &text[text.len()..];
+                Some(text)
+            }
+        }
     }
 }
 
@@ -34,9 +40,10 @@ impl<'a> Iterator for Lines<'a> {
 pub(crate) fn room_for(line: &[u8]) -> usize
     ensures { result ≡ room_for line.now }
 {
-    match line {
-        b"0C" => DISCOVERY_MOST,
-        _ => ANSWER_MOST,
+    if cells::equal(line, b"0C") {
+        DISCOVERY_MOST
+    } else {
+        ANSWER_MOST
     }
 }
 

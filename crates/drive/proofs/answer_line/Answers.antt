@@ -1,6 +1,6 @@
 -- `answer_line` meets its contract: the call is refused, or its line is answered.
 -- Assumes nothing.
-use Rattle.std.proofs.Common.{◌≡◌, ltb, length, sym, ap, ◌∙◌, rules}
+use Rattle.std.proofs.Common.{◌≡◌, length, ltb, ap, sym, ◌∙◌, rules}
 use Rattle.rules.specs.Numbers.{namespaces}
 use Rattle.rules.specs.State.{State}
 use Rattle.rules.specs.Call.{room_for, unanswered, answered, call}
@@ -12,10 +12,9 @@ pub on_ready-requires : goal.on_ready-requires
 on_ready-requires c =
     let counted : length c.args.registers.counts ≡ namespaces = search rules in
     let a = c.args in
-    let short = ap (ltb (length a.out.now)) c.room_for.ensures in
-    let e = sym c.in-Open.is ∙ c.admit.ensures in (
-      ready a.registers a.keys.now a.marks.now _ a.out.now _ short e counted,
-      has_room a.registers a.keys.now a.marks.now _ a.out.now _ short e,
+    let e = sym c.in-Ok.is ∙ c.admit.ensures in (
+      ready a.registers a.keys.now a.marks.now _ a.out.now _ (ap (ltb (length a.out.now)) c.room_for.ensures) e counted,
+      has_room a.registers a.keys.now a.marks.now _ a.out.now _ (ap (ltb (length a.out.now)) c.room_for.ensures) e,
     )
 
 pub returns-in-Err : goal.returns-in-Err
@@ -23,16 +22,14 @@ unfolding call unanswered
 returns-in-Err c =
     let a = c.args in
     let now : State = state a.registers a.keys.now a.marks.now in
-    let short = ap (ltb (length a.out.now)) c.room_for.ensures in
-    shut a.registers a.keys.now a.marks.now (room_for a.line.now) a.out.now _ short
-    c.in-Err.r (unanswered now a.out.now) (answered now a.line.now a.out.now) (sym c.in-Err.is ∙ c.admit.ensures)
+    shut a.registers a.keys.now a.marks.now (room_for a.line.now) a.out.now _ (ap (ltb (length a.out.now)) c.room_for.ensures)
+    c.in-Err.refusal (unanswered now a.out.now) (answered now a.line.now a.out.now) (sym c.in-Err.is ∙ c.admit.ensures)
 
-pub returns-in-Open : goal.returns-in-Open
+pub returns-in-Ok : goal.returns-in-Ok
 unfolding call
-returns-in-Open c =
+returns-in-Ok c =
     let a = c.args in
     let now : State = state a.registers a.keys.now a.marks.now in
-    let short = ap (ltb (length a.out.now)) c.room_for.ensures in
     c.on_ready.ensures
-    ∙ let_in a.registers a.keys.now a.marks.now (room_for a.line.now) a.out.now _ short (sym c.in-Open.is ∙ c.admit.ensures)
+    ∙ let_in a.registers a.keys.now a.marks.now (room_for a.line.now) a.out.now _ (ap (ltb (length a.out.now)) c.room_for.ensures) (sym c.in-Ok.is ∙ c.admit.ensures)
     (unanswered now a.out.now) (answered now a.line.now a.out.now)

@@ -1,6 +1,6 @@
--- `answer_session` meets its contract: the session is refused, or all its lines are answered.
+-- `answer_session` meets its contract: the call is refused, or its lines are answered.
 -- Assumes nothing.
-use Rattle.std.proofs.Common.{◌≡◌, length, sym, ◌∙◌, rules}
+use Rattle.std.proofs.Common.{◌≡◌, length, ltb, ap, sym, ◌∙◌, rules}
 use Rattle.rules.specs.Numbers.{namespaces}
 use Rattle.rules.specs.State.{State}
 use Rattle.rules.specs.Sessions.{no_session, all_answered, session}
@@ -12,7 +12,7 @@ pub run-requires : goal.run-requires
 run-requires c =
     let counted : length c.args.registers.counts ≡ namespaces = search rules in
     let a = c.args in
-    let e = sym c.in-Open.is ∙ c.admit.ensures in (
+    let e = sym c.in-Ok.is ∙ c.admit.ensures in (
       ready a.registers a.keys.now a.marks.now _ a.out.now _ c.need_more_than-short.ensures e counted,
       has_room a.registers a.keys.now a.marks.now _ a.out.now _ c.need_more_than-short.ensures e,
     )
@@ -23,13 +23,13 @@ returns-in-Err c =
     let a = c.args in
     let now : State = state a.registers a.keys.now a.marks.now in
     shut a.registers a.keys.now a.marks.now _ a.out.now _ c.need_more_than-short.ensures
-    c.in-Err.r (no_session now a.out.now) (all_answered now a.text.now a.out.now) (sym c.in-Err.is ∙ c.admit.ensures)
+    c.in-Err.refusal (no_session now a.out.now) (all_answered now a.text.now a.out.now) (sym c.in-Err.is ∙ c.admit.ensures)
 
-pub returns-in-Open : goal.returns-in-Open
+pub returns-in-Ok : goal.returns-in-Ok
 unfolding session
-returns-in-Open c =
+returns-in-Ok c =
     let a = c.args in
     let now : State = state a.registers a.keys.now a.marks.now in
     c.run.ensures
-    ∙ let_in a.registers a.keys.now a.marks.now _ a.out.now _ c.need_more_than-short.ensures (sym c.in-Open.is ∙ c.admit.ensures)
+    ∙ let_in a.registers a.keys.now a.marks.now _ a.out.now _ c.need_more_than-short.ensures (sym c.in-Ok.is ∙ c.admit.ensures)
     (no_session now a.out.now) (all_answered now a.text.now a.out.now)

@@ -1,19 +1,13 @@
 -- `on_ready` meets its contract: the line, and its answer.
 -- Assumes nothing.
-use Rattle.std.proofs.Common.{refl}
-use Rattle.cells.specs.Cells.{zeros}
+use Rattle.std.proofs.Common.{◌∙◌}
 use Rattle.rules.specs.State.{State}
 use Rattle.drive.specs.Acting.{state}
 use Rattle.drive.proofs.RunningLaws.{replied}
 use Rattle.drive.proofs.on_ready.Goals as goal
 
-pub on_line-told-requires : goal.on_line-told-requires
-unfolding zeros
-on_line-told-requires c =
-    (c.requires.0, refl, refl)
-
 pub returns : goal.returns
 returns c =
     let a = c.args in
     let now : State = state a.registers a.keys.now a.marks.now in
-    replied now a.line.now a.out.now _ _ c.on_line-told.ensures.0 c.requires.1 c.write_answer-bytes.ensures
+    replied now a.line.now a.out.now _ _ c.on_line-answer.ensures.0 c.requires.1 c.write_answer-bytes.ensures

@@ -5,11 +5,6 @@ use Rattle.cells.proofs.CellsLaws.{lent_is}
 use Rattle.rules.specs.Numbers.{key_size}
 use Rattle.drive.proofs.act.load.Goals as goal
 
-pub load-requires : goal.load-requires
-load-requires c =
-    let a = c.args in
-    rw (lent_is 5 a.l a.f.now, lent_is (5 + a.l) key_size a.f.now) (c.requires.0, c.requires.1.0)
-
 pub returns : goal.returns
 returns c = λ m.
     let a = c.args in

@@ -1,38 +1,22 @@
--- `locate` meets its contract: each return is one of the checks.
+-- `locate` meets its contract: the namespace first, then the tag.
 -- Assumes nothing.
-use Rattle.std.proofs.Common.{◌≡◌, ℕ, true, false, [], sym, ap, ◌∙◌}
-use Rattle.rules.specs.State.{no_namespace}
-use Rattle.rules.specs.View.{view_of, managed}
+use Rattle.std.proofs.lemmas.Result.{err_from_is_err_and}
+use Rattle.std.proofs.Common.{◌∙◌, [], ap, ℕ}
 use Rattle.rules.proofs.StateLaws.{is_namespace_lem}
-use Rattle.drive.specs.Acting.{state, placed, located}
-use Rattle.drive.proofs.KeysLaws.{managed_by, unmanaged_by}
+use Rattle.drive.specs.Acting.{placed}
+use Rattle.drive.proofs.ActingLaws.{passed_on, is_managed, locate_refused, locate_managed}
 use Rattle.drive.proofs.answers.locate.Goals as goal
 
-pub returns-then-no_namespace : goal.returns-then-no_namespace
-unfolding located
-returns-then-no_namespace c =
-    rw (sym c.no_namespace.ensures ∙ c.if-no_namespace.true)
-
-pub count-n-requires : goal.count-n-requires
-count-n-requires c =
-    is_namespace_lem c.args.ns (sym c.no_namespace.ensures ∙ c.if-no_namespace.false)
-
-pub returns-then-n-eq0 : goal.returns-then-n-eq0
-unfolding located
-returns-then-n-eq0 c =
+pub returns-in_err-n : goal.returns-in_err-n
+returns-in_err-n c =
     let a = c.args in
-    let named : no_namespace a.ns ≡ false = sym c.no_namespace.ensures ∙ c.if-no_namespace.false in
-    let free : managed (view_of (state a.registers [] [])) a.ns ≡ false = unmanaged_by a.registers a.ns _ c.count-n.ensures c.if-n-eq0.true in
-    rw (named, free)
+    passed_on (err_from_is_err_and _ c.from_residual.ensures.1) ∙ locate_refused a.registers.now [] [] a.ns a.tag _ c.in_err-n.ensures
 
 pub place-requires : goal.place-requires
 place-requires c =
-    is_namespace_lem c.args.ns (sym c.no_namespace.ensures ∙ c.if-no_namespace.false)
+    is_namespace_lem c.args.ns (is_managed c.args.registers.now [] [] c.args.ns _ c.in_ok-n.ensures).named
 
 pub returns : goal.returns
-unfolding located placed
 returns c =
     let a = c.args in
-    let named : no_namespace a.ns ≡ false = sym c.no_namespace.ensures ∙ c.if-no_namespace.false in
-    let held : managed (view_of (state a.registers [] [])) a.ns ≡ true = managed_by a.registers a.ns _ c.count-n.ensures c.if-n-eq0.false in
-    rw (named, held) (c.place.ensures ∙ ap (λ (m : ℕ). placed m a.ns a.tag) c.count-n.ensures)
+    c.place.ensures ∙ locate_managed a.registers.now [] [] a.ns a.tag _ c.in_ok-n.ensures

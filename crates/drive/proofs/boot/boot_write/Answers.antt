@@ -1,6 +1,6 @@
 -- `boot_write` meets its contract: the locks crate judges the same checks.
 -- Assumes nothing.
-use Rattle.std.proofs.Common.{not, ltb, [], ◌∷◌, ap, ◌∙◌}
+use Rattle.std.proofs.Common.{[], ◌∷◌, ap, ◌∙◌, ltb, not, Ok, Err}
 use Rattle.rules.specs.Answer.{Answer}
 use Rattle.rules.specs.declared.Granted.TheVariants.{Done}
 use Rattle.rules.specs.declared.Lock.TheVariants.{WriteUnlocked}
@@ -19,8 +19,7 @@ unfolding boot_written boot_write
 returns c =
     λ keys marks.
     let a = c.args in
-    let left : Answer → Outcome = λ x. outcome (record { answer = x; registers = a.registers }) keys marks in
-    ap left c.boot_write-answer.ensures
-    ∙ judged_map
-    (00·02 when ltb 1 a.partition ∷ 01·1E when not (same_lock (partition a.partition a.registers.locks) WriteUnlocked) ∷ [])
-    left Err (Ok Done)
+    let d = a.registers.now in
+    let left : Answer → Outcome = λ x. outcome x d keys marks in
+    ap left c.boot_write.ensures
+    ∙ judged_map (00·02 when ltb 1 a.partition ∷ 01·1E when not (same_lock (partition a.partition d.locks) WriteUnlocked) ∷ []) left Err (Ok Done)

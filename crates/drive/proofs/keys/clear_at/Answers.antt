@@ -18,7 +18,7 @@ returns-then-not-loaded c =
     let a = c.args in
     let none : empty (cell slot_width a.place a.keys.now) ≡ true =
     empty_by a.keys.now c.requires.1 a.place c.requires.0 _ c.loaded.ensures (ap not c.if-not-loaded.true) in
-    rw (c.refused.ensures, none)
+    rw none
 
 pub returns : goal.returns
 unfolding clear_at
@@ -28,4 +28,4 @@ returns c =
     let full : empty (cell slot_width a.place a.keys.now) ≡ false =
     full_by a.keys.now c.requires.1 a.place c.requires.0 _ c.loaded.ensures (ap not c.if-not-loaded.false) in
     let cleared = c.clear.ensures ∙ cleared_is a.keys.now c.requires.1 a.place c.requires.0 in
-    rw (c.done.ensures, cleared, full)
+    rw (cleared, full)

@@ -14,17 +14,17 @@ unfolding load_at
 returns-then-loaded c =
     λ marks.
     let a = c.args in
-    let size = cache_of a.registers a.keys.now c.requires.2 in
+    let size = cache_of a.registers.now a.keys.now c.requires.1 in
     let full : loaded (cell slot_width a.place a.keys.now) ≡ true =
     loaded_by a.keys.now size a.place c.requires.0 _ c.loaded.ensures ∙ c.if-loaded.true in
-    rw (c.refused.ensures, full)
+    rw full
 
 pub returns : goal.returns
 unfolding load_at
 returns c =
     λ marks.
     let a = c.args in
-    let size = cache_of a.registers a.keys.now c.requires.2 in
+    let size = cache_of a.registers.now a.keys.now c.requires.1 in
     let free : loaded (cell slot_width a.place a.keys.now) ≡ false =
     loaded_by a.keys.now size a.place c.requires.0 _ c.loaded.ensures ∙ c.if-loaded.false in
     rw free (c.put.ensures marks)

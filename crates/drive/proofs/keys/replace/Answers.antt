@@ -1,30 +1,27 @@
 -- `replace` meets its contract: the shared checks lead to a refusal or to the place.
 -- Assumes nothing.
-use Rattle.std.proofs.Common.{◌≡◌, [], sym, ◌∙◌}
-use Rattle.drive.specs.declared.Found.TheVariants as found
-use Rattle.drive.specs.Acting.{state, contents, located}
-use Rattle.drive.proofs.ActingLaws.{found_small, replace_refused, replace_found}
+use Rattle.std.proofs.lemmas.Result.{err_from_is_err_and}
+use Rattle.std.proofs.Common.{[], ◌∙◌, ap}
+use Rattle.drive.specs.Contents.{contents}
+use Rattle.drive.specs.Acting.{outcome}
+use Rattle.drive.proofs.ActingLaws.{passed_on, found_small, replace_refused, replace_found}
 use Rattle.drive.proofs.keys.replace.Goals as goal
+
+pub returns-in_err-place : goal.returns-in_err-place
+returns-in_err-place c =
+    λ marks.
+    let a = c.args in
+    ap (λ r. outcome r a.registers.now a.keys.now marks) (passed_on (err_from_is_err_and _ c.from_residual.ensures.1))
+    ∙ replace_refused a.registers.now a.keys.now marks a.ns a.tag (contents a.x.uid.now a.x.key.now) a.old.now _ c.in_err-place.ensures
 
 pub replace_at-requires : goal.replace_at-requires
 replace_at-requires c =
     let a = c.args in
-    let is : found.Place c.in-Place.place ≡ located (state a.registers [] []) a.ns a.tag = sym c.in-Place.is ∙ c.locate.ensures in
-    (found_small a.registers a.keys.now [] a.ns a.tag c.in-Place.place is c.requires.0, c.requires.1, c.requires.0)
+    (found_small a.registers.now a.keys.now [] a.ns a.tag _ c.in_ok-place.ensures c.requires, c.requires)
 
-pub returns-in-Err : goal.returns-in-Err
-returns-in-Err c =
+pub returns : goal.returns
+returns c =
     λ marks.
     let a = c.args in
-    let is : found.Refused c.in-Err.r ≡ located (state a.registers [] []) a.ns a.tag = sym c.in-Err.is ∙ c.locate.ensures in
-    rw c.refused.ensures
-    (replace_refused a.registers a.keys.now marks a.ns a.tag (contents a.uid.now a.key.now) a.old.now c.in-Err.r is)
-
-pub returns-in-Place : goal.returns-in-Place
-returns-in-Place c =
-    λ marks.
-    let a = c.args in
-    let is : found.Place c.in-Place.place ≡ located (state a.registers [] []) a.ns a.tag = sym c.in-Place.is ∙ c.locate.ensures in
     c.replace_at.ensures marks
-    ∙ replace_found a.registers a.keys.now marks a.ns a.tag (contents a.uid.now a.key.now) a.old.now
-    c.in-Place.place is
+    ∙ replace_found a.registers.now a.keys.now marks a.ns a.tag (contents a.x.uid.now a.x.key.now) a.old.now _ c.in_ok-place.ensures

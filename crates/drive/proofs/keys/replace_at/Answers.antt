@@ -17,29 +17,29 @@ unfolding replace_at
 returns-then-not-loaded c =
     λ marks.
     let a = c.args in
-    let size = cache_of a.registers a.keys.now c.requires.2 in
+    let size = cache_of a.registers.now a.keys.now c.requires.1 in
     let none : empty (cell slot_width a.place a.keys.now) ≡ true =
     empty_by a.keys.now size a.place c.requires.0 _ c.loaded.ensures (ap not c.if-not-loaded.true) in
-    rw (c.refused.ensures, none)
+    rw none
 
 pub returns-then-not-holds_uid : goal.returns-then-not-holds_uid
 unfolding replace_at
 returns-then-not-holds_uid c =
     λ marks.
     let a = c.args in
-    let size = cache_of a.registers a.keys.now c.requires.2 in
+    let size = cache_of a.registers.now a.keys.now c.requires.1 in
     let full : empty (cell slot_width a.place a.keys.now) ≡ false =
     full_by a.keys.now size a.place c.requires.0 _ c.loaded.ensures (ap not c.if-not-loaded.false) in
     let holds : same (uid_of (cell slot_width a.place a.keys.now)) a.old.now ≡ false =
     holds_by a.keys.now size a.place c.requires.0 a.old.now _ c.holds_uid.ensures full ∙ c.if-not-holds_uid.true in
-    rw (c.refused-then-not-holds_uid.ensures, full, holds)
+    rw (full, holds)
 
 pub returns : goal.returns
 unfolding replace_at
 returns c =
     λ marks.
     let a = c.args in
-    let size = cache_of a.registers a.keys.now c.requires.2 in
+    let size = cache_of a.registers.now a.keys.now c.requires.1 in
     let full : empty (cell slot_width a.place a.keys.now) ≡ false =
     full_by a.keys.now size a.place c.requires.0 _ c.loaded.ensures (ap not c.if-not-loaded.false) in
     let holds : same (uid_of (cell slot_width a.place a.keys.now)) a.old.now ≡ true =

@@ -1,14 +1,9 @@
--- `wrapped::clear` meets its contract: KeyUID and key are lent where they lie.
+-- `wrapped::clear` meets its contract: the key lies behind the integrity value.
 -- Assumes nothing.
 use Rattle.std.proofs.Common.{◌+◌}
 use Rattle.cells.proofs.CellsLaws.{lent_is}
 use Rattle.rules.specs.Numbers.{key_size}
 use Rattle.drive.proofs.wrapped.clear.Goals as goal
-
-pub load-requires : goal.load-requires
-load-requires c =
-    let a = c.args in
-    rw (lent_is 5 a.l a.f.now, lent_is (5 + a.l + 8) key_size a.f.now) (c.requires.0, c.requires.1.0)
 
 pub returns : goal.returns
 returns c = λ m.

@@ -16,7 +16,7 @@ use Rattle.drive.proofs.wrapped.opened.Goals as goal
 pub open-requires : goal.open-requires
 open-requires c =
     let a = c.args in
-    (cache_of a.registers a.keys.now c.requires.0, uid_short [] a.f.now a.l c.requires.1.0 c.requires.1.1, c.requires.1.1)
+    (cache_of a.registers.now a.keys.now c.requires.0, uid_short [] a.f.now a.l c.requires.1.0 c.requires.1.1, c.requires.1.1)
 
 pub returns-then-not-open : goal.returns-then-not-open
 returns-then-not-open c =
@@ -25,8 +25,7 @@ returns-then-not-open c =
     let f = a.f.now in
     let was = unwrap kek (part (5 + a.l) wrapped_size f) in
     let none = shut was (sym c.if-not-open.true ∙ c.open.ensures.0) in (
-      λ marks. rw c.refused.ensures
-          (wrapped_shut a.registers a.keys.now marks a.ns a.tag (contents_at wrapped_size 5 a.l f) c.requires.2 none),
+      λ marks. (wrapped_shut a.registers.now a.keys.now marks a.ns a.tag (contents_at wrapped_size 5 a.l f) c.requires.2 none),
       rest_same kek f a.l c.requires.1.0 c.requires.1.1 _ c.open.ensures.1,
       c.open.ensures.2,
     )
@@ -54,10 +53,10 @@ returns c =
     let fit = c.requires.1.0 in
     let room = c.requires.1.1 in (
       λ marks.
-          let now = state a.registers a.keys.now marks in
+          let now = state a.registers.now a.keys.now marks in
           c.clear.ensures marks
           ∙ ap (λ x. obey now (load (view_of now) a.ns a.tag x)) (contents_is kek f a.l fit room _ c.open.ensures.1 some)
-          ∙ wrapped_open a.registers a.keys.now marks a.ns a.tag (contents_at wrapped_size 5 a.l f) some.key some.is,
+          ∙ wrapped_open a.registers.now a.keys.now marks a.ns a.tag (contents_at wrapped_size 5 a.l f) some.key some.is,
       rest_same kek f a.l fit room _ c.open.ensures.1,
       c.open.ensures.2,
     )
