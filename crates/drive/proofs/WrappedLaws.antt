@@ -23,7 +23,7 @@ use Rattle.rules.proofs.AesLaws.{unwrap_length}
 use Rattle.rules.proofs.ChecksLaws.{judged_pass}
 use Rattle.rules.proofs.WrappedLaws.{wrapped_rule, wrapped_is, wrapped_first, loads_clear}
 use Rattle.wrap.specs.Wrapping.{told, opened_in}
-use Rattle.std.specs.Prelude.{Ok, Err}
+use Rattle.std.specs.Prelude.{Err}
 use Rattle.drive.specs.Acting.{state, replace_most, opened_at, located}
 use Rattle.drive.proofs.ActingLaws.{refused_by}
 

@@ -1,6 +1,6 @@
 -- `answer_session` meets its contract: the call is refused, or its lines are answered.
 -- Assumes nothing.
-use Rattle.std.proofs.Common.{◌≡◌, length, ltb, ap, sym, ◌∙◌, rules}
+use Rattle.std.proofs.Common.{◌≡◌, length, sym, ◌∙◌, rules}
 use Rattle.rules.specs.Numbers.{namespaces}
 use Rattle.rules.specs.State.{State}
 use Rattle.rules.specs.Sessions.{no_session, all_answered, session}

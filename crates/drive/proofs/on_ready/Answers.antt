@@ -1,6 +1,5 @@
 -- `on_ready` meets its contract: the line, and its answer.
 -- Assumes nothing.
-use Rattle.std.proofs.Common.{◌∙◌}
 use Rattle.rules.specs.State.{State}
 use Rattle.drive.specs.Acting.{state}
 use Rattle.drive.proofs.RunningLaws.{replied}

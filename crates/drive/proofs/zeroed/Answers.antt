@@ -1,7 +1,6 @@
 -- `zeroed` meets its contract: each return is one of the checks.
 -- Assumes nothing.
-use Rattle.std.proofs.Common.{◌≡◌, ◌∙◌, true, false, ap, arith}
-use Rattle.cells.specs.Cells.{zeros}
+use Rattle.std.proofs.Common.{◌≡◌, false}
 use Rattle.rules.specs.State.{wrong_cache, wrong_store}
 use Rattle.rules.proofs.StateLaws.{right_cache, wrong_cache_lem}
 use Rattle.drive.specs.Acting.{zeroed}

@@ -1,6 +1,6 @@
 -- `act` meets its contract: each arm is the rule of its frame.
 -- Assumes nothing.
-use Rattle.std.proofs.Common.{◌≡◌, sym, refl, ◌∙◌}
+use Rattle.std.proofs.Common.{sym, refl, ◌∙◌}
 use Rattle.rules.specs.Order.{frame_rule, discovery}
 use Rattle.drive.specs.Acting.{Sound}
 use Rattle.drive.proofs.ActingLaws.{sound_keys}

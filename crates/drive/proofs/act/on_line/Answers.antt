@@ -1,6 +1,6 @@
 -- `on_line` meets its contract: what was read stands for the line, and the frame is wiped.
 -- Assumes nothing.
-use Rattle.std.proofs.Common.{◌≡◌, ◌+◌, ◌<◌, length, ap, ◌∙◌, rules}
+use Rattle.std.proofs.Common.{◌+◌, ◌<◌, length, ap, ◌∙◌, rules}
 use Rattle.rules.specs.Numbers.{uid_most, key_size}
 use Rattle.rules.specs.State.{State}
 use Rattle.frames.proofs.ReadingLaws.{means, lies}

@@ -5,6 +5,11 @@ use Rattle.cells.proofs.CellsLaws.{lent_is}
 use Rattle.rules.specs.Numbers.{key_size}
 use Rattle.drive.proofs.act.replace.Goals as goal
 
+pub invariant_of-x : goal.invariant_of-x
+invariant_of-x c =
+    let a = c.args in
+    record { fits = rw (lent_is (6 + a.o) a.l a.f.now, lent_is (6 + a.o + a.l) key_size a.f.now) c.requires.1.0 }
+
 pub returns : goal.returns
 returns c = λ m.
     let a = c.args in

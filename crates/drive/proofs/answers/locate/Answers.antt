@@ -1,9 +1,8 @@
 -- `locate` meets its contract: the namespace first, then the tag.
 -- Assumes nothing.
 use Rattle.std.proofs.lemmas.Result.{err_from_is_err_and}
-use Rattle.std.proofs.Common.{◌∙◌, [], ap, ℕ}
+use Rattle.std.proofs.Common.{◌∙◌, []}
 use Rattle.rules.proofs.StateLaws.{is_namespace_lem}
-use Rattle.drive.specs.Acting.{placed}
 use Rattle.drive.proofs.ActingLaws.{passed_on, is_managed, locate_refused, locate_managed}
 use Rattle.drive.proofs.answers.locate.Goals as goal
 

@@ -1,6 +1,6 @@
 -- `at_place` meets its contract: the front of the slot is the kept identity, which the covered marks become or are held to.
 -- Assumes nothing.
-use Rattle.std.proofs.Common.{◌+◌, ap, ◌∙◌, arith}
+use Rattle.std.proofs.Common.{arith}
 use Rattle.drive.proofs.IoLaws.{lands, place_inside, written, read_by}
 use Rattle.drive.proofs.io.at_place.Goals as goal
 

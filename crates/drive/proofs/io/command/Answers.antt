@@ -1,8 +1,7 @@
 -- `command` meets its contract: the opcode, then where the command leads.
 -- Assumes nothing.
 use Rattle.std.proofs.lemmas.Result.{err_from_is_err_and}
-use Rattle.std.proofs.Common.{[], sym, ap, ◌∙◌, Err}
-use Rattle.rules.specs.State.{refuse}
+use Rattle.std.proofs.Common.{sym, ap, ◌∙◌, Err}
 use Rattle.drive.specs.Acting.{state, outcome}
 use Rattle.drive.proofs.ActingLaws.{passed_on, sound_keys}
 use Rattle.drive.proofs.IoLaws.{opens, known_by, unknown_leads, known_leads}

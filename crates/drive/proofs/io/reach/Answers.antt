@@ -2,8 +2,7 @@
 -- Assumes nothing.
 use Rattle.std.proofs.lemmas.Result.{err_from_is_err_and}
 use Rattle.std.proofs.Common.{◌≡◌, false, [], sym, ◌∙◌, rules}
-use Rattle.rules.specs.State.{no_namespace, count}
-use Rattle.rules.specs.Order.{out_of_range}
+use Rattle.rules.specs.State.{no_namespace}
 use Rattle.rules.proofs.StateLaws.{is_namespace_lem}
 use Rattle.drive.specs.Acting.{state, reached}
 use Rattle.drive.proofs.ActingLaws.{passed_on}

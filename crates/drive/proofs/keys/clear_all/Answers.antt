@@ -1,12 +1,10 @@
 -- `clear_all` meets its contract: the checks of the namespace, then what is emptied.
 -- Assumes nothing.
 use Rattle.std.proofs.lemmas.Result.{err_from_is_err_and}
-use Rattle.std.proofs.Common.{◌≡◌, ℕ, [], ap, ◌∙◌, sym, Err}
-use Rattle.rules.specs.State.{Outcome, refuse}
-use Rattle.rules.specs.View.{view_of}
+use Rattle.std.proofs.Common.{[], ap, ◌∙◌, sym}
+use Rattle.rules.specs.State.{refuse}
 use Rattle.rules.specs.Effects.{empty_slots}
 use Rattle.rules.specs.Order.{clear_all}
-use Rattle.rules.proofs.StateLaws.{is_namespace_lem, done}
 use Rattle.slots.specs.Cache.{cleared_up_to}
 use Rattle.slots.proofs.ClearLaws.{sound_clear}
 use Rattle.drive.specs.Acting.{state, outcome}

@@ -1,10 +1,9 @@
 -- `manage` meets its contract: each return is one of the checks.
 -- Assumes nothing.
-use Rattle.std.proofs.Common.{◌≡◌, ◌+◌, ◌<◌, true, false, [], length, sym, ◌∙◌, ◌||◌, ltb, eqb, arith, rules, eq-eqb, ne_eqb, lt-ltb, le-ltb, ⊎_elim}
+use Rattle.std.proofs.Common.{◌≡◌, ◌+◌, true, false, length, sym, ◌∙◌, ◌||◌, ltb, eqb, arith, rules, eq-eqb, ne_eqb, lt-ltb, le-ltb, ⊎_elim}
 use Rattle.cells.proofs.PredicatesLaws.{neither}
 use Rattle.rules.specs.State.{no_namespace, total}
 use Rattle.rules.specs.Numbers.{namespaces, tags_most, pool_slots}
-use Rattle.rules.specs.View.{view_of, managed}
 use Rattle.rules.specs.Effects.{set_count}
 use Rattle.rules.specs.Order.{manage}
 use Rattle.rules.proofs.StateLaws.{is_namespace_lem}

@@ -1,12 +1,11 @@
 -- `release` meets its contract: the checks of the namespace, then what is emptied.
 -- Assumes nothing.
 use Rattle.std.proofs.lemmas.Result.{err_from_is_err_and}
-use Rattle.std.proofs.Common.{◌≡◌, ℕ, [], ap, ◌∙◌, sym, Err}
-use Rattle.rules.specs.State.{Outcome, refuse}
-use Rattle.rules.specs.View.{view_of}
+use Rattle.std.proofs.Common.{[], ap, ◌∙◌, sym}
+use Rattle.rules.specs.State.{refuse}
 use Rattle.rules.specs.Effects.{set_count, empty_slots, zero_marks}
 use Rattle.rules.specs.Order.{release}
-use Rattle.rules.proofs.StateLaws.{is_namespace_lem, done}
+use Rattle.rules.proofs.StateLaws.{is_namespace_lem}
 use Rattle.slots.specs.Cache.{cleared_up_to}
 use Rattle.slots.proofs.ClearLaws.{sound_clear}
 use Rattle.drive.specs.Acting.{state, outcome}

@@ -2,7 +2,7 @@
 -- Assumes nothing.
 use Rattle.std.proofs.Common.{◌≡◌, length, arith, rules}
 use Rattle.rules.specs.Numbers.{namespaces}
-use Rattle.rules.proofs.SoundLaws.{total_next, total_end}
+use Rattle.rules.proofs.SoundLaws.{total_end}
 use Rattle.drive.proofs.keys.total.Goals as goal
 
 pub returns : goal.returns

@@ -1,8 +1,7 @@
 -- `run` meets its contract: after each line what is left completes the whole, and the state stays sound.
 -- Assumes nothing.
-use Rattle.std.proofs.Common.{◌≡◌, sym, subst, arith}
+use Rattle.std.proofs.Common.{subst, arith}
 use Rattle.rules.specs.State.{State}
-use Rattle.rules.specs.Sessions.{lines_of}
 use Rattle.drive.specs.Acting.{state}
 use Rattle.drive.proofs.RunningLaws.{Mid, few, room_more, fits, mid_more, mid_end, wrote_bytes, wrote_back, ready_next}
 use Rattle.drive.proofs.running.run.Goals as goal
