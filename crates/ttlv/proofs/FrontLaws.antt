@@ -21,7 +21,8 @@ use Rattle.rules.specs.Fields.{byte, big}
 use Rattle.rules.proofs.TtlvFrontLaws.{on_cond, front_is}
 use Rattle.ttlv.specs.declared.Head.{Head}
 use Rattle.ttlv.specs.declared.Front.{Front}
-use Rattle.ttlv.specs.declared.Front.TheVariants.{NoItem, Value}
+use Rattle.ttlv.specs.declared.Front.TheVariants.{Value}
+use Rattle.std.specs.Prelude.{Option, Some, None}
 use Rattle.ttlv.specs.declared.Front.TheVariants as places
 use Rattle.ttlv.specs.Reading.{Headed, placed, front_at, item_at, shown, Inside, Fronted}
 
@@ -115,15 +116,16 @@ lent_padding start n xs = let e : start + to_eight n - (start + n) ≡ to_eight 
 -- ------------------------------------------------------------------------
 -- A front by places is the front that stands there
 
-pub from_places : (xs : List ℕ) (at end : ℕ) → at ≤ end → end ≤ length xs → (r : Front) → Fronted xs at end r → front_at xs at end ≡ r
+pub from_places : (xs : List ℕ) (at end : ℕ) → at ≤ end → end ≤ length xs → (r : Option Front) → Fronted xs at end r
+    → front_at xs at end ≡ r
 unfolding front_at placed
-from_places xs at end l m NoItem f = ap (placed at) f.is
-from_places xs at end l m (Value tag kind n next) f =
+from_places xs at end l m None f = ap (placed at) f.is
+from_places xs at end l m (Some (Value tag kind n next)) f =
     let i = f.inside.0 in
     let j = f.inside.1 in
     let e : length (part (at + item_head) n xs) ≡ n = length_part (at + item_head) n xs (omega arith) in
     ap (placed at) f.is ∙ rw (e, i)
-from_places xs at end l m (places.Structure tag n) f =
+from_places xs at end l m (Some (places.Structure tag n)) f =
     let i = f.inside in
     let e : length (part (at + item_head) n xs) ≡ n = length_part (at + item_head) n xs (omega arith) in
     ap (placed at) f.is ∙ rw e
@@ -186,10 +188,10 @@ pub item_there : (xs : List ℕ) (at end : ℕ) → at ≤ end → end ≤ lengt
 unfolding item_at
 item_there xs at end l m = rw (le-leb at end l, le-leb end (length xs) m)
 
-pub item_back : (xs : List ℕ) (at end : ℕ) → end < at → item_at xs at end ≡ NoItem
+pub item_back : (xs : List ℕ) (at end : ℕ) → end < at → item_at xs at end ≡ None
 unfolding item_at
 item_back xs at end l = rw (lt-leb at end l)
 
-pub item_past : (xs : List ℕ) (at end : ℕ) → at ≤ end → length xs < end → item_at xs at end ≡ NoItem
+pub item_past : (xs : List ℕ) (at end : ℕ) → at ≤ end → length xs < end → item_at xs at end ≡ None
 unfolding item_at
 item_past xs at end l m = rw (le-leb at end l, lt-leb end (length xs) m)

@@ -16,7 +16,8 @@ use Rattle.cells.proofs.CellsLaws.{lent_rest, back_rest, lent_length_to}
 use Rattle.rules.specs.Ttlv.{Items, item_head, deepest, read_items}
 use Rattle.rules.specs.Ttlv as ttlv
 use Rattle.ttlv.specs.declared.Item.{Item}
-use Rattle.ttlv.specs.declared.Front.TheVariants.{NoItem, Value, Structure}
+use Rattle.ttlv.specs.declared.Front.TheVariants.{Value, Structure}
+use Rattle.std.specs.Prelude.{Some, None}
 use Rattle.ttlv.specs.declared.ListRead.TheVariants.{Listed, NoPlaces, NoItems}
 use Rattle.ttlv.specs.ItemList.{is_some, item, list_at, list_of}
 use Rattle.ttlv.specs.Reading.{Fronted, Mid}
@@ -123,7 +124,7 @@ module _ {xs places now ends : List ℕ} {levels at count : ℕ} (t : Turn xs pl
       (λ h. absurd (never (mid_deep xs ends levels at f.done f.mid t.some_level t.some_left h)))
       (λ h. omega arith)
 
-  pub turn_broken : Fronted xs at (get_or ends (levels - 1) 0) NoItem → ⊥
+  pub turn_broken : Fronted xs at (get_or ends (levels - 1) 0) None → ⊥
   turn_broken b = never (mid_broken xs ends levels at f.done f.mid t.some_level t.some_left turn_within b)
 
   -- from the first place that is free
@@ -148,7 +149,7 @@ module _ {xs places now ends : List ℕ} {levels at count : ℕ} (t : Turn xs pl
   more : (i : Item) → count + 1 ≡ length (f.done ++ i ∷ [])
   more i = ap (λ k. k + 1) f.counted ∙ sym (length-append f.done (i ∷ []))
 
-  module _ (tag kind n next : ℕ) (v : Fronted xs at (get_or ends (levels - 1) 0) (Value tag kind n next)) where
+  module _ (tag kind n next : ℕ) (v : Fronted xs at (get_or ends (levels - 1) 0) (Some (Value tag kind n next))) where
     pub value_inside : at + item_head + n ≤ length xs
     value_inside =
         let a = v.inside in
@@ -172,7 +173,7 @@ module _ {xs places now ends : List ℕ} {levels at count : ℕ} (t : Turn xs pl
           laid_so = laid_more places now r f.done i count f.counted f.laid_so e;
         }
 
-  module _ (tag n : ℕ) (v : Fronted xs at (get_or ends (levels - 1) 0) (Structure tag n)) where
+  module _ (tag n : ℕ) (v : Fronted xs at (get_or ends (levels - 1) 0) (Some (Structure tag n))) where
     pub structure_inside : at + item_head + n ≤ length xs
     structure_inside =
         let a = v.inside in

@@ -13,7 +13,8 @@ use Rattle.cells.proofs.CellsLaws.{length_part}
 use Rattle.rules.specs.Ttlv.{Items, item_head, deepest, read_at}
 use Rattle.rules.specs.Ttlv as ttlv
 use Rattle.ttlv.specs.declared.Item.{Item}
-use Rattle.ttlv.specs.declared.Front.TheVariants.{NoItem, Value, Structure}
+use Rattle.ttlv.specs.declared.Front.TheVariants.{Value, Structure}
+use Rattle.std.specs.Prelude.{Some, None}
 use Rattle.ttlv.specs.ItemList.{is_some, item, list_of, list_at, join}
 use Rattle.ttlv.specs.Reading.{Fronted, rest, Nested, Mid}
 use Rattle.ttlv.proofs.ListLaws.{one, join_assoc, join_empty, empty_join, list_none, list_deep, list_broken, list_value, list_structure}
@@ -148,7 +149,7 @@ module _ (xs ends : List ℕ) (levels at : ℕ) (done : List Item) (m : Mid xs e
   pub mid_deep : (at ≡ end → ⊥) → deepest < levels → list_at 1 0 xs ≡ none
   mid_deep n h = mid_none (list_deep levels at run (run_some n) h)
 
-  pub mid_broken : (at ≡ end → ⊥) → levels ≤ deepest → Fronted xs at end NoItem → list_at 1 0 xs ≡ none
+  pub mid_broken : (at ≡ end → ⊥) → levels ≤ deepest → Fronted xs at end None → list_at 1 0 xs ≡ none
   mid_broken n h f = mid_none (list_broken levels at run (run_some n) h f.is)
 
   -- an item behind those that are there
@@ -159,7 +160,7 @@ module _ (xs ends : List ℕ) (levels at : ℕ) (done : List Item) (m : Mid xs e
   more : (i : Item) → length (done ++ i ∷ []) ≡ length done + 1
   more i = length-append done (i ∷ [])
 
-  pub mid_value : (at ≡ end → ⊥) → levels ≤ deepest → (tag kind n next : ℕ) → Fronted xs at end (Value tag kind n next)
+  pub mid_value : (at ≡ end → ⊥) → levels ≤ deepest → (tag kind n next : ℕ) → Fronted xs at end (Some (Value tag kind n next))
       → Mid xs ends levels next (done ++ item tag kind levels (at + item_head) n ∷ [])
   mid_value ne h tag kind n next f =
       let a = at_end in
@@ -184,7 +185,7 @@ module _ (xs ends : List ℕ) (levels at : ℕ) (done : List Item) (m : Mid xs e
             ∙ whole_top;
       }
 
-  pub mid_open : (at ≡ end → ⊥) → levels ≤ deepest → (tag n : ℕ) → Fronted xs at end (Structure tag n)
+  pub mid_open : (at ≡ end → ⊥) → levels ≤ deepest → (tag n : ℕ) → Fronted xs at end (Some (Structure tag n))
       → Mid xs (set ends levels (at + item_head + n)) (levels + 1) (at + item_head) (done ++ item tag ttlv.Structure levels (at + item_head) n ∷ [])
   mid_open ne h tag n f =
       let a = at_end in

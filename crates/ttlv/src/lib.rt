@@ -51,7 +51,6 @@ pub(crate) struct Head {
 // What stands at the front of a run of bytes, by places: a value and where the next item would start, or a structure.
 #[derive(Clone, Copy)]
 pub enum Front {
-    NoItem,
     Value {
         tag: u32,
         kind: u8,
@@ -81,14 +80,11 @@ pub enum Written {
 }
 
 // What stands at `at`, among the bytes up to `end`. No item stands in a run that is not there.
-pub fn item_at(bytes: &[u8], at: usize, end: usize) -> Front
+pub fn item_at(bytes: &[u8], at: usize, end: usize) -> Option<Front>
     ensures { result ≡ item_at bytes.now at end }
 {
-    if at > end {
-        return Front::NoItem;
-    }
-    if end > bytes.len() {
-        return Front::NoItem;
+    if at > end || end > bytes.len() {
+        return None;
     }
     front_at(bytes, at, end)
 }
@@ -112,21 +108,14 @@ pub fn sound(bytes: &[u8]) -> bool
         if levels > DEEPEST {
             return false;
         }
-        let found = front_at(bytes, at, end);
-        match found {
-            Front::NoItem => {
-                return false;
-            }
-            Front::Value {
-                tag: _,
-                kind: _,
-                length: _,
-                next,
-            } => {
+        let Some(front) = front_at(bytes, at, end) else {
+            return false;
+        };
+        match front {
+            Front::Value { next, .. } => {
                 at = next;
-                continue;
             }
-            Front::Structure { tag: _, length } => {
+            Front::Structure { length, .. } => {
                 at += ITEM_HEAD;
                 ends[levels] = at + length;
                 levels += 1;

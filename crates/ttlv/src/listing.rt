@@ -34,12 +34,13 @@ pub(crate) fn list(bytes: &[u8], places: &mut [u32]) -> usize
             levels -= 1;
             continue;
         }
-        let found = front_at(bytes, at, end);
+        let Some(front) = front_at(bytes, at, end) else {
+            return count;
+        };
         let from = ITEM_PLACES * count;
         let start = at + ITEM_HEAD;
         count += 1;
-        match found {
-            Front::NoItem => return count,
+        match front {
             Front::Value {
                 tag,
                 kind,
@@ -48,7 +49,6 @@ pub(crate) fn list(bytes: &[u8], places: &mut [u32]) -> usize
             } => {
                 put(&mut places[from..], tag, kind, levels, start, length);
                 at = next;
-                continue;
             }
             Front::Structure { tag, length } => {
                 put(&mut places[from..], tag, STRUCTURE, levels, start, length);

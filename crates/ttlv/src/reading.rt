@@ -47,12 +47,12 @@ pub(crate) fn is_value(kind: u8, n: usize) -> bool
 }
 
 // What stands at `at`, among the bytes up to `end`.
-pub(crate) fn front_at(bytes: &[u8], at: usize, end: usize) -> Front
+pub(crate) fn front_at(bytes: &[u8], at: usize, end: usize) -> Option<Front>
     requires { (at ≤ end) × (end ≤ length bytes.now) }
     ensures { Fronted bytes.now at end result }
 {
     if end - at < ITEM_HEAD {
-        return Front::NoItem;
+        return None;
     }
     let start = at + ITEM_HEAD;
     let room = end - start;
@@ -62,26 +62,26 @@ pub(crate) fn front_at(bytes: &[u8], at: usize, end: usize) -> Front
     let length = head.length;
     if kind == STRUCTURE {
         if length > room {
-            return Front::NoItem;
+            return None;
         }
-        return Front::Structure { tag, length };
+        return Some(Front::Structure { tag, length });
     }
     if !is_value(kind, length) {
-        return Front::NoItem;
+        return None;
     }
     let whole = (length + 7) / 8 * 8;
     if whole > room {
-        return Front::NoItem;
+        return None;
     }
     let from = start + length;
     let next = start + whole;
     if !cells::all_zero(&bytes[from..next]) {
-        return Front::NoItem;
+        return None;
     }
-    Front::Value {
+    Some(Front::Value {
         tag,
         kind,
         length,
         next,
-    }
+    })
 }

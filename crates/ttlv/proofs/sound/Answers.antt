@@ -25,20 +25,20 @@ returns-then-levels-gt-DEEPEST c =
     sym (sound_if s.bytes.now none
     (mid_deep s.bytes.now l.ends l.levels l.at m.0 m.1 c.loop-levels-test.true c.if-at-end.false c.if-levels-gt-DEEPEST.true))
 
-pub front_at-found-requires : goal.front_at-found-requires
-front_at-found-requires c =
+pub front_at-requires : goal.front_at-requires
+front_at-requires c =
     let l = c.loop-levels in
     let m = l.invariant in
     let s = c.args in
     let t = c.loop-levels-test.true in
     (at_end s.bytes.now l.ends l.levels l.at m.0 m.1 t, end_inside s.bytes.now l.ends l.levels l.at m.0 m.1 t)
 
-pub returns-in-NoItem : goal.returns-in-NoItem
-returns-in-NoItem c =
+pub returns-in_default : goal.returns-in_default
+returns-in_default c =
     let l = c.loop-levels in
     let m = l.invariant in
     let s = c.args in
-    let found = rw c.in-NoItem.is at c.front_at-found.ensures in
+    let found = c.in_default.ensures in
     sym (sound_if s.bytes.now none
     (mid_broken s.bytes.now l.ends l.levels l.at m.0 m.1 c.loop-levels-test.true c.if-at-end.false c.if-levels-gt-DEEPEST.false found))
 
@@ -46,7 +46,7 @@ pub loop-levels-smaller-in-Value : goal.loop-levels-smaller-in-Value
 loop-levels-smaller-in-Value c =
     let l = c.loop-levels in
     let m = l.invariant in
-    let found = rw c.in-Value.is at c.front_at-found.ensures in
+    let found = rw c.in-Value.is at c.in-Some.ensures in
     let i = found.inside in
     let e = end_inside c.args.bytes.now l.ends l.levels l.at m.0 m.1 c.loop-levels-test.true in
     omega arith
@@ -55,7 +55,7 @@ pub loop-levels-preserved-in-Value : goal.loop-levels-preserved-in-Value
 loop-levels-preserved-in-Value c =
     let l = c.loop-levels in
     let m = l.invariant in
-    let found = rw c.in-Value.is at c.front_at-found.ensures in (
+    let found = rw c.in-Value.is at c.in-Some.ensures in (
       _,
       mid_value c.args.bytes.now l.ends l.levels l.at m.0 m.1 c.loop-levels-test.true c.if-at-end.false c.if-levels-gt-DEEPEST.false
           c.in-Value.tag c.in-Value.kind c.in-Value.length c.in-Value.next found,
@@ -65,7 +65,7 @@ pub overflow_add-ends : goal.overflow_add-ends
 overflow_add-ends c =
     let l = c.loop-levels in
     let m = l.invariant in
-    let found = rw c.in-Structure.is at c.front_at-found.ensures in
+    let found = rw c.in-Structure.is at c.in-Some.ensures in
     let i = found.inside in
     let e = end_inside c.args.bytes.now l.ends l.levels l.at m.0 m.1 c.loop-levels-test.true in
     omega arith
@@ -74,7 +74,7 @@ pub loop-levels-smaller : goal.loop-levels-smaller
 loop-levels-smaller c =
     let l = c.loop-levels in
     let m = l.invariant in
-    let found = rw c.in-Structure.is at c.front_at-found.ensures in
+    let found = rw c.in-Structure.is at c.in-Some.ensures in
     let i = found.inside in
     let e = end_inside c.args.bytes.now l.ends l.levels l.at m.0 m.1 c.loop-levels-test.true in
     omega arith
@@ -83,7 +83,7 @@ pub loop-levels-preserved : goal.loop-levels-preserved
 loop-levels-preserved c =
     let l = c.loop-levels in
     let m = l.invariant in
-    let found = rw c.in-Structure.is at c.front_at-found.ensures in (
+    let found = rw c.in-Structure.is at c.in-Some.ensures in (
       _,
       mid_open c.args.bytes.now l.ends l.levels l.at m.0 m.1 c.loop-levels-test.true c.if-at-end.false c.if-levels-gt-DEEPEST.false
           c.in-Structure.tag c.in-Structure.length found,

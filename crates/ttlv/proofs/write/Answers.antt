@@ -1,12 +1,11 @@
 -- `write` meets its contract: each way out is an answer of `write_list`.
 -- Assumes nothing.
 use native.Mathlib.Omega.{arith}
-use mathlib.Core.Path.{◌≡◌, sym, ◌∙◌}
-use mathlib.Core.Bool.{true}
+use mathlib.Core.Path.{sym, ◌∙◌}
 use Prim.Native.Nat.{◌≤◌}
 use lib.ListN.{length}
 use Rattle.ttlv.specs.Listing.{items_in}
-use Rattle.ttlv.specs.Writing.{good_from, room_for}
+use Rattle.ttlv.specs.Writing.{room_for}
 use Rattle.ttlv.proofs.GoodLaws.{good_from_lem, good_inside}
 use Rattle.ttlv.proofs.WroteLaws.{wrote_many, wrote_absent, wrote_short, wrote_bad, wrote_long, wrote_all}
 use Rattle.ttlv.proofs.write.Goals as goal

@@ -24,25 +24,25 @@ pub loop-levels-preserved-then-at-end : goal.loop-levels-preserved-then-at-end
 loop-levels-preserved-then-at-end c =
     fill_close c.requires c.loop-levels.invariant c.loop-levels-test.true c.if-at-end.true
 
-pub front_at-found-requires : goal.front_at-found-requires
-front_at-found-requires c =
+pub front_at-requires : goal.front_at-requires
+front_at-requires c =
     let turn = turn_of c.requires c.loop-levels.invariant c.loop-levels-test.true c.if-at-end.false in
     fill_run turn.good turn.so_far turn.some_level
 
-pub shape_of-places-in-NoItem : goal.shape_of-places-in-NoItem
-shape_of-places-in-NoItem c =
+pub shape_of-places-in_default : goal.shape_of-places-in_default
+shape_of-places-in_default c =
     fill_length c.requires c.loop-levels.invariant
 
-pub returns-in-NoItem : goal.returns-in-NoItem
-returns-in-NoItem c =
+pub returns-in_default : goal.returns-in_default
+returns-in_default c =
     let turn = turn_of c.requires c.loop-levels.invariant c.loop-levels-test.true c.if-at-end.false in
-    let found = rw c.in-NoItem.is at c.front_at-found.ensures in
+    let found = c.in_default.ensures in
     absurd (turn_broken turn found)
 
 pub slice_bounds-put-count : goal.slice_bounds-put-count
 slice_bounds-put-count c =
     let turn = turn_of c.requires c.loop-levels.invariant c.loop-levels-test.true c.if-at-end.false in
-    let found = rw c.in-Value.is at c.front_at-found.ensures in
+    let found = rw c.in-Value.is at c.in-Some.ensures in
     let i = value_inside turn c.in-Value.tag c.in-Value.kind c.in-Value.length c.in-Value.next found in
     let r = turn_room turn (omega arith) in
     omega arith
@@ -50,7 +50,7 @@ slice_bounds-put-count c =
 pub slice_bounds-put-start : goal.slice_bounds-put-start
 slice_bounds-put-start c =
     let turn = turn_of c.requires c.loop-levels.invariant c.loop-levels-test.true c.if-at-end.false in
-    let found = rw c.in-Value.is at c.front_at-found.ensures in
+    let found = rw c.in-Value.is at c.in-Some.ensures in
     let i = value_inside turn c.in-Value.tag c.in-Value.kind c.in-Value.length c.in-Value.next found in
     let r = turn_room turn (omega arith) in
     omega arith
@@ -58,13 +58,13 @@ slice_bounds-put-start c =
 pub put-requires : goal.put-requires
 put-requires c =
     let turn = turn_of c.requires c.loop-levels.invariant c.loop-levels-test.true c.if-at-end.false in
-    let found = rw c.in-Value.is at c.front_at-found.ensures in
+    let found = rw c.in-Value.is at c.in-Some.ensures in
     value_places turn c.in-Value.tag c.in-Value.kind c.in-Value.length c.in-Value.next found
 
 pub loop-levels-smaller-in-Value : goal.loop-levels-smaller-in-Value
 loop-levels-smaller-in-Value c =
     let turn = turn_of c.requires c.loop-levels.invariant c.loop-levels-test.true c.if-at-end.false in
-    let found = rw c.in-Value.is at c.front_at-found.ensures in
+    let found = rw c.in-Value.is at c.in-Some.ensures in
     let i = value_inside turn c.in-Value.tag c.in-Value.kind c.in-Value.length c.in-Value.next found in
     let n = found.inside in
     omega arith
@@ -72,13 +72,13 @@ loop-levels-smaller-in-Value c =
 pub loop-levels-preserved-in-Value : goal.loop-levels-preserved-in-Value
 loop-levels-preserved-in-Value c =
     let turn = turn_of c.requires c.loop-levels.invariant c.loop-levels-test.true c.if-at-end.false in
-    let found = rw c.in-Value.is at c.front_at-found.ensures in
+    let found = rw c.in-Value.is at c.in-Some.ensures in
     value_more turn c.in-Value.tag c.in-Value.kind c.in-Value.length c.in-Value.next found c.put.new.places c.put.ensures
 
 pub slice_bounds-put-count-in-Structure : goal.slice_bounds-put-count-in-Structure
 slice_bounds-put-count-in-Structure c =
     let turn = turn_of c.requires c.loop-levels.invariant c.loop-levels-test.true c.if-at-end.false in
-    let found = rw c.in-Structure.is at c.front_at-found.ensures in
+    let found = rw c.in-Structure.is at c.in-Some.ensures in
     let i = structure_inside turn c.in-Structure.tag c.in-Structure.length found in
     let r = turn_room turn (omega arith) in
     omega arith
@@ -86,7 +86,7 @@ slice_bounds-put-count-in-Structure c =
 pub slice_bounds-put-start-in-Structure : goal.slice_bounds-put-start-in-Structure
 slice_bounds-put-start-in-Structure c =
     let turn = turn_of c.requires c.loop-levels.invariant c.loop-levels-test.true c.if-at-end.false in
-    let found = rw c.in-Structure.is at c.front_at-found.ensures in
+    let found = rw c.in-Structure.is at c.in-Some.ensures in
     let i = structure_inside turn c.in-Structure.tag c.in-Structure.length found in
     let r = turn_room turn (omega arith) in
     omega arith
@@ -94,13 +94,13 @@ slice_bounds-put-start-in-Structure c =
 pub put-requires-in-Structure : goal.put-requires-in-Structure
 put-requires-in-Structure c =
     let turn = turn_of c.requires c.loop-levels.invariant c.loop-levels-test.true c.if-at-end.false in
-    let found = rw c.in-Structure.is at c.front_at-found.ensures in
+    let found = rw c.in-Structure.is at c.in-Some.ensures in
     structure_places turn c.in-Structure.tag c.in-Structure.length found
 
 pub overflow_add-ends : goal.overflow_add-ends
 overflow_add-ends c =
     let turn = turn_of c.requires c.loop-levels.invariant c.loop-levels-test.true c.if-at-end.false in
-    let found = rw c.in-Structure.is at c.front_at-found.ensures in
+    let found = rw c.in-Structure.is at c.in-Some.ensures in
     let i = structure_inside turn c.in-Structure.tag c.in-Structure.length found in
     omega arith
 
@@ -113,14 +113,14 @@ bounds-ends-levels-in-Structure c =
 pub loop-levels-smaller : goal.loop-levels-smaller
 loop-levels-smaller c =
     let turn = turn_of c.requires c.loop-levels.invariant c.loop-levels-test.true c.if-at-end.false in
-    let found = rw c.in-Structure.is at c.front_at-found.ensures in
+    let found = rw c.in-Structure.is at c.in-Some.ensures in
     let i = structure_inside turn c.in-Structure.tag c.in-Structure.length found in
     omega arith
 
 pub loop-levels-preserved : goal.loop-levels-preserved
 loop-levels-preserved c =
     let turn = turn_of c.requires c.loop-levels.invariant c.loop-levels-test.true c.if-at-end.false in
-    let found = rw c.in-Structure.is at c.front_at-found.ensures in
+    let found = rw c.in-Structure.is at c.in-Some.ensures in
     structure_more turn c.in-Structure.tag c.in-Structure.length found c.put-in-Structure.new.places c.put-in-Structure.ensures
 
 pub shape_of-places : goal.shape_of-places

@@ -1,12 +1,10 @@
 -- `front_at` meets its contract: each way out is a case of the front.
 -- Assumes nothing.
 use native.Mathlib.Omega.{arith}
-use mathlib.Core.Path.{◌≡◌, refl, sym, ap, ◌∙◌}
-use mathlib.Core.Bool.{true}
-use Prim.Native.Nat.{◌+◌, ◌-◌, ◌≤◌}
-use Rattle.cells.specs.Cells.{part}
+use mathlib.Core.Path.{refl, sym, ap, ◌∙◌}
+use Prim.Native.Nat.{◌+◌, ◌≤◌}
 use Rattle.cells.specs.Predicates.{all_zero}
-use Rattle.rules.specs.Ttlv.{item_head, to_eight, is_value, front, front_of}
+use Rattle.rules.specs.Ttlv.{item_head}
 use Rattle.ttlv.proofs.FrontLaws.{front_short, front_run, front_long, front_opens, front_unvalued, front_wide, front_unclean}
 use Rattle.ttlv.proofs.FrontLaws.{front_closed, lent_padding}
 use Rattle.ttlv.proofs.reading.front_at.Goals as goal
