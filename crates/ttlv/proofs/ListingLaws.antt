@@ -17,8 +17,8 @@ use Rattle.rules.specs.Ttlv.{Items, item_head, deepest, read_items}
 use Rattle.rules.specs.Ttlv as ttlv
 use Rattle.ttlv.specs.declared.Item.{Item}
 use Rattle.ttlv.specs.declared.Front.TheVariants.{Value, Structure}
-use Rattle.std.specs.Prelude.{Some, None}
-use Rattle.ttlv.specs.declared.ListRead.TheVariants.{Listed, NoPlaces, NoItems}
+use Rattle.std.specs.Prelude.{Some, None, Ok, Err}
+use Rattle.ttlv.specs.declared.ReadError.TheVariants.{NoPlaces, NoItems}
 use Rattle.ttlv.specs.ItemList.{is_some, item, list_at, list_of}
 use Rattle.ttlv.specs.Reading.{Fronted, Mid}
 use Rattle.ttlv.specs.Listing.{Reading, item_places, items_most, message_most, numbers_of, all_numbers, laid, read_list}
@@ -205,23 +205,23 @@ unsound none e = refl
 unsound (some a) e = absurd (true≢false e)
 
 module _ (xs places : List ℕ) where
-  pub read_few : length places < item_places * items_most → ◌≡◌ {A = Reading} (record { result = NoPlaces; places = places }) (read_list xs places)
+  pub read_few : length places < item_places * items_most → ◌≡◌ {A = Reading} (record { result = Err NoPlaces; places = places }) (read_list xs places)
   unfolding read_list
   read_few h = sym (rw (lt-ltb (length places) (item_places * items_most) h))
 
   module _ (enough : item_places * items_most ≤ length places) where
-    pub read_long : message_most < length xs → ◌≡◌ {A = Reading} (record { result = NoItems; places = places }) (read_list xs places)
+    pub read_long : message_most < length xs → ◌≡◌ {A = Reading} (record { result = Err NoItems; places = places }) (read_list xs places)
     unfolding read_list
     read_long h = sym (rw (le-ltb (length places) (item_places * items_most) enough, lt-ltb message_most (length xs) h))
 
     module _ (short : length xs ≤ message_most) where
-      pub read_unsound : is_some (read_items xs) ≡ false → ◌≡◌ {A = Reading} (record { result = NoItems; places = places }) (read_list xs places)
+      pub read_unsound : is_some (read_items xs) ≡ false → ◌≡◌ {A = Reading} (record { result = Err NoItems; places = places }) (read_list xs places)
       unfolding read_list list_at list_of
       read_unsound e =
           let o = unsound (read_items xs) e in
           sym (rw (le-ltb (length places) (item_places * items_most) enough, le-ltb message_most (length xs) short, o))
 
       pub read_laid : (n : ℕ) (now : List ℕ) → Laid xs places n now
-          → ◌≡◌ {A = Reading} (record { result = Listed n; places = now }) (read_list xs places)
+          → ◌≡◌ {A = Reading} (record { result = Ok n; places = now }) (read_list xs places)
       unfolding read_list
       read_laid n now e = e ∙ sym (rw (le-ltb (length places) (item_places * items_most) enough, le-ltb message_most (length xs) short))

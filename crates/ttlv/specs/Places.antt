@@ -1,8 +1,7 @@
 -- What the lister's own functions are lent, and leave.
 -- Assumes nothing.
-use Rattle.std.specs.Prelude.{◌≡◌, true, List, ℕ, ◌*◌, ◌≤◌, length}
+use Rattle.std.specs.Prelude.{◌≡◌, true, List, ℕ, ◌*◌, ◌≤◌, length, Ok}
 use Rattle.rules.specs.Ttlv.{deepest, read_items}
-use Rattle.ttlv.specs.declared.ListRead.TheVariants.{Listed}
 use Rattle.ttlv.specs.ItemList.{is_some, list_at}
 use Rattle.ttlv.specs.Listing.{item_places, items_most, message_most, laid}
 
@@ -21,4 +20,4 @@ pub record Listable (xs places : List ℕ) : Type 0 where
 
 -- so many items of the bytes stand at the front of the places
 abbrev pub Laid : List ℕ → List ℕ → ℕ → List ℕ → Type 0
-Laid xs places n now = record { result = Listed n; places = now } ≡ laid places (list_at 1 0 xs)
+Laid xs places n now = record { result = Ok n; places = now } ≡ laid places (list_at 1 0 xs)

@@ -63,18 +63,16 @@ pub enum Front {
     },
 }
 
-// What reading a list came to: so many items, too few places for any message, or bytes that are no items.
-#[derive(Clone, Copy)]
-pub enum ListRead {
-    Listed(usize),
+// Why no list is read: too few places for any message, or bytes that are no items.
+#[derive(Clone, Copy, Debug, PartialEq, Eq)]
+pub enum ReadError {
     NoPlaces,
     NoItems,
 }
 
-// What writing a list came to: so many bytes, too little room, or numbers that are no item list.
-#[derive(Clone, Copy)]
-pub enum Written {
-    Bytes(usize),
+// Why no bytes are written: too little room, or numbers that are no item list.
+#[derive(Clone, Copy, Debug, PartialEq, Eq)]
+pub enum WriteError {
     Short,
     NoList,
 }
@@ -125,44 +123,38 @@ pub fn sound(bytes: &[u8]) -> bool
     true
 }
 
-// The items of the bytes as a list, laid at the front of the places. What is refused leaves them as they were.
-pub fn read(bytes: &[u8], places: &mut [u32]) -> ListRead
+// The items of the bytes as a list, laid at the front of the places; how many they are. What is refused leaves the places as they were.
+pub fn read(bytes: &[u8], places: &mut [u32]) -> Result<usize, ReadError>
     ensures { record { result = result; places = places.new } ≡ read_list bytes.now places.old }
 {
     if places.len() < ITEM_PLACES * ITEMS_MOST {
-        return ListRead::NoPlaces;
+        return Err(ReadError::NoPlaces);
     }
-    if bytes.len() > MESSAGE_MOST {
-        return ListRead::NoItems;
+    if bytes.len() > MESSAGE_MOST || !sound(bytes) {
+        return Err(ReadError::NoItems);
     }
-    if !sound(bytes) {
-        return ListRead::NoItems;
-    }
-    let count = list(bytes, places);
-    ListRead::Listed(count)
+    Ok(list(bytes, places))
 }
 
-// The encoding of the list of the first `count` items, whose values stand among `values`, at the front of the output. What is refused
-// leaves the output as it was.
-pub fn write(items: &[u32], count: usize, values: &[u8], out: &mut [u8]) -> Written
+// The encoding of the list of the first `count` items, whose values stand among `values`, at the front of the output; how many bytes it
+// is. What is refused leaves the output as it was.
+pub fn write(
+    items: &[u32],
+    count: usize,
+    values: &[u8],
+    out: &mut [u8],
+) -> Result<usize, WriteError>
     ensures { record { result = result; out = out.new } ≡ write_list items.now count values.now out.old }
 {
-    if count > ITEMS_MOST {
-        return Written::NoList;
-    }
-    if items.len() < ITEM_PLACES * count {
-        return Written::NoList;
+    if count > ITEMS_MOST || items.len() < ITEM_PLACES * count {
+        return Err(WriteError::NoList);
     }
     let n = total_room(items, count);
     if out.len() < n {
-        return Written::Short;
+        return Err(WriteError::Short);
     }
-    if !good_list(items, count, values.len()) {
-        return Written::NoList;
+    if !good_list(items, count, values.len()) || n >= LENGTHS {
+        return Err(WriteError::NoList);
     }
-    if n >= LENGTHS {
-        return Written::NoList;
-    }
-    let n = lay(out, items, count, values);
-    Written::Bytes(n)
+    Ok(lay(out, items, count, values))
 }
