@@ -3,7 +3,7 @@
 use mathlib.Core.Path.{◌≡◌, refl, sym, ap, ◌∙◌}
 use mathlib.Core.Bool.{true, false, ◌&&◌}
 use mathlib.Core.List.{List, [], ◌∷◌}
-use Prim.Native.Nat.{ℕ, zero, suc, ◌+◌, ◌-◌, ◌<◌, ◌≤◌}
+use Prim.Native.Nat.{ℕ, zero, suc, ◌+◌, ◌-◌, ◌%◌, ◌<◌, ◌≤◌}
 use native.Mathlib.Nat.{add-zero}
 use native.Mathlib.Omega.{arith}
 use lib.ListN.{length, take, drop, get_or}
@@ -29,7 +29,7 @@ use Rattle.ttlv.specs.Reading.{Headed, placed, front_at, item_at, shown, Inside,
 -- ------------------------------------------------------------------------
 -- Bytes of a part
 
-drop_take : (n m : ℕ) (ys : List ℕ) → drop n (take m ys) ≡ take (m - n) (drop n ys)
+pub drop_take : (n m : ℕ) (ys : List ℕ) → drop n (take m ys) ≡ take (m - n) (drop n ys)
 drop_take zero m ys = let e : m - 0 ≡ m = omega arith in rw e
 drop_take (suc n) zero ys = let e : zero - suc n ≡ 0 = omega arith in rw e
 drop_take (suc n) (suc m) [] = sym (take-nil (suc m - suc n))
@@ -195,3 +195,7 @@ item_back xs at end l = rw (lt-leb at end l)
 pub item_past : (xs : List ℕ) (at end : ℕ) → at ≤ end → length xs < end → item_at xs at end ≡ None
 unfolding item_at
 item_past xs at end l m = rw (le-leb at end l, lt-leb end (length xs) m)
+
+-- the next multiple of eight, by what is known of one
+pub to_eight_is : (n r : ℕ) → n ≤ r → r < n + 8 → r % 8 ≡ 0 → r ≡ to_eight n
+to_eight_is n r l m z = omega arith

@@ -8,6 +8,7 @@ pub mod GoodLaws
 pub mod PutLaws
 pub mod ItemLoopLaws
 pub mod LayLaws
+pub mod RoomLaws
 pub mod WroteLaws
 pub mod WrittenLaws
 pub mod ListedLaws

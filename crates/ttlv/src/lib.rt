@@ -5,7 +5,7 @@ ghost use Rattle.std.specs.Prelude.{◌≡◌};
 ghost use Rattle.rules.specs.Ttlv.{read_items};
 ghost use Rattle.ttlv.specs.ItemList.{is_some};
 ghost use Rattle.ttlv.specs.Reading.{item_at};
-ghost use Rattle.ttlv.specs.Listing.{read_list};
+ghost use Rattle.ttlv.specs.Listing.{first_item, read_list};
 ghost use Rattle.ttlv.specs.Writing.{write_list};
 
 mod listing;
@@ -14,7 +14,7 @@ mod writing;
 
 use listing::list;
 use reading::front_at;
-use writing::{good_list, lay, total_room};
+use writing::{first_items, good_list, lay, total_room};
 
 pub const DEEPEST: usize = 8;
 
@@ -38,6 +38,21 @@ pub struct Item {
     pub depth: u32,
     pub start: u32,
     pub length: u32,
+}
+
+impl From<[u32; ITEM_PLACES]> for Item {
+    ghost from_gives = { λ numbers item. item ≡ first_item numbers };
+
+    fn from(numbers: [u32; ITEM_PLACES]) -> Item {
+        let [tag, kind, depth, start, length] = numbers;
+        Item {
+            tag,
+            kind,
+            depth,
+            start,
+            length,
+        }
+    }
 }
 
 // The head of an item.
@@ -146,15 +161,13 @@ pub fn write(
 ) -> Result<usize, WriteError>
     ensures { record { result = result; out = out.new } ≡ write_list items.now count values.now out.old }
 {
-    if count > ITEMS_MOST || items.len() < ITEM_PLACES * count {
-        return Err(WriteError::NoList);
-    }
-    let n = total_room(items, count);
+    let items = first_items(items, count).ok_or(WriteError::NoList)?;
+    let n = total_room(items);
     if out.len() < n {
         return Err(WriteError::Short);
     }
-    if !good_list(items, count, values.len()) || n >= LENGTHS {
+    if !good_list(items, values.len()) || n >= LENGTHS {
         return Err(WriteError::NoList);
     }
-    Ok(lay(out, items, count, values))
+    Ok(lay(out, items, values))
 }

@@ -1,12 +1,12 @@
 // The bytes of an item list that is lent as numbers.
-ghost use Rattle.std.specs.Prelude.{◌≡◌, ◌++◌, ◌+◌, ◌*◌, ◌≤◌, ◌<◌, length, drop};
+ghost use Rattle.std.specs.Prelude.{◌≡◌, ◌∷◌, ◌++◌, ◌+◌, ◌*◌, ◌^◌, ◌≤◌, ◌<◌, length, drop, leb, position, MatchOption};
 ghost use Rattle.rules.specs.Ttlv.{deepest, item_head, to_eight, head, is_value};
-ghost use Rattle.ttlv.specs.Listing.{item_places, items_in};
+ghost use Rattle.ttlv.specs.Listing.{items_most, first_item};
 ghost use Rattle.ttlv.specs.Writing.{deeper, good_item, good_from, most_behind, room_of, room_for};
-ghost use Rattle.ttlv.specs.Pieces.{item_no, written_no, Enough, Member, Room, piece_of, Inside, value_put, Layable, LaidOut};
+ghost use Rattle.ttlv.specs.Pieces.{items_of, Absent, FirstItems, with_length, Room, piece_of, Inside, value_put, Layable, LaidOut};
 
 use crate::reading::{STRUCTURE, is_value};
-use crate::{DEEPEST, ITEM_HEAD, ITEM_PLACES, Item};
+use crate::{DEEPEST, ITEM_HEAD, ITEM_PLACES, ITEMS_MOST, Item};
 
 const TAGS: u32 = 0x1000000;
 
@@ -14,19 +14,18 @@ const DEEPEST_ITEM: u32 = DEEPEST as u32;
 
 const STRUCTURE_KIND: u32 = STRUCTURE as u32;
 
-// Item i.
-fn item_in(items: &[u32], i: usize) -> Item
-    requires { item_places * i + item_places ≤ length items.now }
-    ensures { result ≡ item_no i items.now }
+// An item's numbers.
+pub(crate) type Numbers = [u32; ITEM_PLACES];
+
+// The numbers of the first `count` items, if there are so many, and not too many for a message.
+pub(crate) fn first_items(numbers: &[u32], count: usize) -> Option<&[Numbers]>
+    ensures { MatchOption result (Absent count numbers.now) (λ items. FirstItems count numbers.now items.now) }
 {
-    let at = ITEM_PLACES * i;
-    Item {
-        tag: items[at],
-        kind: items[at + 1],
-        depth: items[at + 2],
-        start: items[at + 3],
-        length: items[at + 4],
+    if count > ITEMS_MOST {
+        return None;
     }
+    let (items, _) = numbers.get(..ITEM_PLACES * count)?.as_chunks();
+    Some(items)
 }
 
 // The bytes that an item takes.
@@ -36,49 +35,41 @@ fn room(item: Item) -> usize
     if item.kind == STRUCTURE_KIND {
         return ITEM_HEAD;
     }
-    ITEM_HEAD + (item.length as usize + 7) / 8 * 8
+    ITEM_HEAD + (item.length as usize).next_multiple_of(8)
 }
 
 // The bytes of all items.
-pub(crate) fn total_room(items: &[u32], count: usize) -> usize
-    requires { Enough count items.now }
-    ensures { result ≡ room_for (items_in count items.now) }
+pub(crate) fn total_room(items: &[Numbers]) -> usize
+    requires { length items.now ≤ items_most }
+    ensures { result ≡ room_for (items_of items.now) }
 {
-    let mut sum = 0;
-    let mut i = 0;
-    while i < count {
-        let item = item_in(items, i);
-        sum += room(item);
-        i += 1;
-    }
-    sum
+    items.iter().map(|numbers| room(Item::from(*numbers))).sum()
 }
 
-// The bytes of the items from `from` on that are deeper than `depth`.
-fn members_room(items: &[u32], count: usize, from: usize, depth: u32) -> usize
-    requires { Enough count items.now × (from ≤ count) }
-    ensures { result ≡ room_for (deeper depth (drop from (items_in count items.now))) }
+// The place of the first item that is not deeper than `depth`.
+fn first_not_deeper(items: &[Numbers], depth: u32) -> Option<usize>
+    ensures { result ≡ position (λ ns. leb (first_item ns).depth depth) items.now }
 {
-    let mut sum = 0;
-    let mut i = from;
-    while i < count {
-        let item = item_in(items, i);
-        if item.depth <= depth {
-            return sum;
-        }
-        sum += room(item);
-        i += 1;
-    }
-    sum
+    items
+        .iter()
+        .position(|numbers| Item::from(*numbers).depth <= depth)
+}
+
+// The items in front that are deeper than `depth`.
+fn members(items: &[Numbers], depth: u32) -> &[Numbers]
+    ensures { items_of result.now ≡ deeper depth (items_of items.now) }
+{
+    let count = first_not_deeper(items, depth).unwrap_or(items.len());
+    &items[..count]
 }
 
 fn may_be_value(kind: u32, n: usize) -> bool
     ensures { result ≡ is_value kind n }
 {
-    if kind > 255 {
-        return false;
+    match u8::try_from(kind) {
+        Ok(kind) => is_value(kind, n),
+        Err(_) => false,
     }
-    is_value(kind as u8, n)
 }
 
 // Whether an item may stand at depth `most` or less, with its value among n bytes.
@@ -106,19 +97,16 @@ fn most_behind(item: Item) -> u32
 }
 
 // Whether each item may stand where it stands.
-pub(crate) fn good_list(items: &[u32], count: usize, n: usize) -> bool
-    requires { Enough count items.now }
-    ensures { result ≡ good_from n 1 (items_in count items.now) }
+pub(crate) fn good_list(items: &[Numbers], n: usize) -> bool
+    ensures { result ≡ good_from n 1 (items_of items.now) }
 {
-    let mut most: u32 = 1;
-    let mut i = 0;
-    while i < count {
-        let item = item_in(items, i);
+    let mut most = 1;
+    for numbers in items {
+        let item = Item::from(*numbers);
         if !good_item(item, n, most) {
             return false;
         }
         most = most_behind(item);
-        i += 1;
     }
     true
 }
@@ -128,14 +116,9 @@ fn put_head(out: &mut [u8], tag: u32, kind: u32, n: u32)
     requires { (item_head ≤ length out.old) × (kind < 256) }
     ensures { out.new ≡ head tag kind n ++ drop item_head out.old }
 {
-    out[0] = (tag / 65536 % 256) as u8;
-    out[1] = (tag / 256 % 256) as u8;
-    out[2] = (tag % 256) as u8;
-    out[3] = kind as u8;
-    out[4] = (n / 16777216 % 256) as u8;
-    out[5] = (n / 65536 % 256) as u8;
-    out[6] = (n / 256 % 256) as u8;
-    out[7] = (n % 256) as u8;
+    let [_, high, middle, low] = tag.to_be_bytes();
+    let [a, b, c, d] = n.to_be_bytes();
+    out[..ITEM_HEAD].copy_from_slice(&[high, middle, low, kind as u8, a, b, c, d]);
 }
 
 // A value and its padding, behind the head's place.
@@ -143,11 +126,10 @@ fn put_value(out: &mut [u8], value: &[u8])
     requires { item_head + to_eight (length value.now) ≤ length out.old }
     ensures { out.new ≡ value_put value.now out.old }
 {
-    let n = value.len();
-    let to = ITEM_HEAD + n;
-    let end = ITEM_HEAD + (n + 7) / 8 * 8;
-    cells::copy(&mut out[ITEM_HEAD..to], value);
-    cells::fill_zero(&mut out[to..end]);
+    let to = ITEM_HEAD + value.len();
+    let end = ITEM_HEAD + value.len().next_multiple_of(8);
+    out[ITEM_HEAD..to].copy_from_slice(value);
+    out[to..end].fill(0);
 }
 
 // One item's bytes, at the front.
@@ -164,37 +146,31 @@ fn put_item(out: &mut [u8], item: Item, values: &[u8])
     put_value(out, &values[start..stop]);
 }
 
-// Item i as it is written: a structure has the length of its members.
-fn as_written(items: &[u32], count: usize, i: usize) -> Item
-    requires { Member count i items.now }
-    ensures { result ≡ written_no count i items.now }
+// An item as it is written, with the items behind it: a structure has the length of its members.
+fn as_written(item: Item, behind: &[Numbers]) -> Item
+    requires few { length behind.now ≤ items_most }
+    requires fits { room_for (items_of behind.now) < 2 ^ 32 }
+    ensures { result ≡ with_length item (room_for (deeper item.depth (items_of behind.now))) }
 {
-    let item = item_in(items, i);
     if item.kind != STRUCTURE_KIND {
         return item;
     }
-    let n = members_room(items, count, i + 1, item.depth);
-    Item {
-        tag: item.tag,
-        kind: STRUCTURE_KIND,
-        depth: item.depth,
-        start: item.start,
-        length: n as u32,
-    }
+    let length = total_room(members(behind, item.depth)) as u32;
+    Item { length, ..item }
 }
 
 // The items, one after another, at the front; how many bytes they take.
-pub(crate) fn lay(out: &mut [u8], items: &[u32], count: usize, values: &[u8]) -> usize
-    requires { Layable items.now count values.now out.old }
-    ensures { LaidOut (items_in count items.now) values.now out.old result out.new }
+pub(crate) fn lay(out: &mut [u8], items: &[Numbers], values: &[u8]) -> usize
+    requires { Layable (items_of items.now) values.now out.old }
+    ensures { LaidOut (items_of items.now) values.now out.old result out.new }
 {
     let mut at = 0;
-    let mut i = 0;
-    while i < count {
-        let item = as_written(items, count, i);
+    let mut left = items;
+    while let [numbers, behind @ ..] = left {
+        let item = as_written(Item::from(*numbers), behind);
         put_item(&mut out[at..], item, values);
         at += room(item);
-        i += 1;
+        left = behind;
     }
     at
 }

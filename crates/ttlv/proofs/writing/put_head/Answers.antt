@@ -1,12 +1,9 @@
--- `put_head` meets its contract: the eight bytes of a head, one after another.
+-- `put_head` meets its contract: the eight bytes of a head.
 -- Assumes nothing.
-use native.Mathlib.Omega.{arith}
-use lib.Seq.{sets-eq}
 use Rattle.rules.specs.Ttlv.{head}
 use Rattle.ttlv.proofs.writing.put_head.Goals as goal
 
 pub returns : goal.returns
 unfolding head
 returns c =
-    let s = c.args in
-    sets-eq (head s.tag s.kind s.n) s.out.now 0 (omega arith)
+    rw (c.copy_from_slice.ensures.after, c.to_be_bytes.ensures, c.to_be_bytes-2.ensures)

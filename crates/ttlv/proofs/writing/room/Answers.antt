@@ -11,4 +11,5 @@ returns-then-item-eq-STRUCTURE_KIND c =
 
 pub returns : goal.returns
 returns c =
-    record { is = sym (room_value c.args.item c.if-item-eq-STRUCTURE_KIND.false); small = omega arith }
+    let p = c.next_multiple_of.ensures in
+    record { is = omega (arith, room_value c.args.item c.if-item-eq-STRUCTURE_KIND.false, p.lower_bound, p.upper_bound, p.multiple); small = omega arith }
