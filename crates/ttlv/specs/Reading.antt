@@ -1,12 +1,13 @@
 -- What the reader's own functions leave, in terms of the rules; and where a
 -- reading stands between two items.
 -- Assumes nothing.
-use Rattle.std.specs.Prelude.{◌≡◌, ◌&&◌, cond, List, [], ℕ, zero, suc, ◌+◌, ◌-◌, ◌*◌, ◌^◌, ◌≤◌, ◌<◌, length, get_or, leb}
+use Rattle.std.specs.Prelude.{◌≡◌, ◌&&◌, cond, List, [], ◌∷◌, ℕ, zero, suc, ◌+◌, ◌-◌, ◌*◌, ◌^◌, ◌≤◌, ◌<◌}
+use Rattle.std.specs.Prelude.{length, get_or, leb}
 use Rattle.std.specs.Prelude.{Option, Some, None}
 use Rattle.std.proofs.Math.Option.{some}
 use Rattle.std.proofs.Math.Option as math
 use Rattle.cells.specs.Cells.{part}
-use Rattle.rules.specs.Fields.{big_endian}
+use Rattle.rules.specs.Fields.{byte, big_endian}
 use Rattle.rules.specs.Ttlv.{item_head, deepest, to_eight, no_item, a_value, a_structure, front}
 use Rattle.rules.specs.Ttlv as ttlv
 use Rattle.ttlv.specs.declared.Item.{Item}
@@ -15,11 +16,11 @@ use Rattle.ttlv.specs.declared.Front.{Front}
 use Rattle.ttlv.specs.declared.Front.TheVariants.{Value, Structure}
 use Rattle.ttlv.specs.ItemList.{list_at, join}
 
--- the head that stands at `at`
-pub record Headed (xs : List ℕ) (at : ℕ) (r : Head) : Type 0 where
-  pub tag_is : big_endian (part at 3 xs) ≡ r.tag
-  pub kind_is : get_or xs (at + 3) 0 ≡ r.kind
-  pub length_is : big_endian (part (at + 4) 4 xs) ≡ r.length
+-- eight bytes as a head
+pub record Headed (bytes : List ℕ) (r : Head) : Type 0 where
+  pub tag_is : r.tag ≡ big_endian (byte 0 bytes ∷ byte 1 bytes ∷ byte 2 bytes ∷ [])
+  pub kind_is : r.kind ≡ byte 3 bytes
+  pub length_is : r.length ≡ big_endian (byte 4 bytes ∷ byte 5 bytes ∷ byte 6 bytes ∷ byte 7 bytes ∷ [])
   pub length_fits : r.length < 2 ^ 32
 
 -- a front that begins at `at`, by places: a value's length and where the next item would start, a structure's length

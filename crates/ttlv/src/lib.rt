@@ -13,7 +13,7 @@ mod reading;
 mod writing;
 
 use listing::list;
-use reading::front_at;
+use reading::{front_at, front_of};
 use writing::{first_items, good_list, lay, total_room};
 
 pub const DEEPEST: usize = 8;
@@ -96,10 +96,7 @@ pub enum WriteError {
 pub fn item_at(bytes: &[u8], at: usize, end: usize) -> Option<Front>
     ensures { result ≡ item_at bytes.now at end }
 {
-    if at > end || end > bytes.len() {
-        return None;
-    }
-    front_at(bytes, at, end)
+    front_of(bytes.get(at..end)?, at)
 }
 
 // Whether the bytes are items, none deeper than eight. `ends` are the ends of the open structures, that of the bytes first; each turn

@@ -8,12 +8,12 @@ use crate::reading::{STRUCTURE, front_at};
 use crate::{DEEPEST, Front, ITEM_HEAD, ITEM_PLACES};
 
 // One item, at the front.
-fn put(places: &mut [u32], tag: u32, kind: u8, depth: usize, start: usize, length: usize)
+fn put(places: &mut [u32], tag: u32, kind: u32, depth: usize, start: usize, length: usize)
     requires { PlacesFor depth start length places.old }
     ensures { places.new ≡ numbers_of (item tag kind depth start length) ++ drop item_places places.old }
 {
     places[0] = tag;
-    places[1] = kind as u32;
+    places[1] = kind;
     places[2] = depth as u32;
     places[3] = start as u32;
     places[4] = length as u32;
@@ -47,7 +47,14 @@ pub(crate) fn list(bytes: &[u8], places: &mut [u32]) -> usize
                 length,
                 next,
             } => {
-                put(&mut places[from..], tag, kind, levels, start, length);
+                put(
+                    &mut places[from..],
+                    tag,
+                    u32::from(kind),
+                    levels,
+                    start,
+                    length,
+                );
                 at = next;
             }
             Front::Structure { tag, length } => {

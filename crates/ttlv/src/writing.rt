@@ -5,14 +5,12 @@ ghost use Rattle.ttlv.specs.Listing.{items_most, first_item};
 ghost use Rattle.ttlv.specs.Writing.{deeper, good_item, good_from, most_behind, room_of, room_for};
 ghost use Rattle.ttlv.specs.Pieces.{items_of, Absent, FirstItems, with_length, Room, piece_of, Inside, value_put, Layable, LaidOut};
 
-use crate::reading::{STRUCTURE, is_value};
+use crate::reading::{PADDED_TO, STRUCTURE, is_value};
 use crate::{DEEPEST, ITEM_HEAD, ITEM_PLACES, ITEMS_MOST, Item};
 
 const TAGS: u32 = 0x1000000;
 
 const DEEPEST_ITEM: u32 = DEEPEST as u32;
-
-const STRUCTURE_KIND: u32 = STRUCTURE as u32;
 
 // An item's numbers.
 pub(crate) type Numbers = [u32; ITEM_PLACES];
@@ -32,10 +30,10 @@ pub(crate) fn first_items(numbers: &[u32], count: usize) -> Option<&[Numbers]>
 fn room(item: Item) -> usize
     ensures { Room item result }
 {
-    if item.kind == STRUCTURE_KIND {
+    if item.kind == STRUCTURE {
         return ITEM_HEAD;
     }
-    ITEM_HEAD + (item.length as usize).next_multiple_of(8)
+    ITEM_HEAD + (item.length as usize).next_multiple_of(PADDED_TO)
 }
 
 // The bytes of all items.
@@ -63,15 +61,6 @@ fn members(items: &[Numbers], depth: u32) -> &[Numbers]
     &items[..count]
 }
 
-fn may_be_value(kind: u32, n: usize) -> bool
-    ensures { result ≡ is_value kind n }
-{
-    match u8::try_from(kind) {
-        Ok(kind) => is_value(kind, n),
-        Err(_) => false,
-    }
-}
-
 // Whether an item may stand at depth `most` or less, with its value among n bytes.
 fn good_item(item: Item, n: usize, most: u32) -> bool
     ensures { result ≡ good_item n most item }
@@ -80,8 +69,8 @@ fn good_item(item: Item, n: usize, most: u32) -> bool
         & (1 <= item.depth)
         & (item.depth <= most)
         & (item.depth <= DEEPEST_ITEM)
-        & ((item.kind == STRUCTURE_KIND)
-            | (may_be_value(item.kind, item.length as usize)
+        & ((item.kind == STRUCTURE)
+            | (is_value(item.kind, item.length as usize)
                 & (item.start as usize + item.length as usize <= n)))
 }
 
@@ -90,7 +79,7 @@ fn most_behind(item: Item) -> u32
     requires { item.depth ≤ deepest }
     ensures { result ≡ most_behind item }
 {
-    if item.kind == STRUCTURE_KIND {
+    if item.kind == STRUCTURE {
         return item.depth + 1;
     }
     item.depth
@@ -127,7 +116,7 @@ fn put_value(out: &mut [u8], value: &[u8])
     ensures { out.new ≡ value_put value.now out.old }
 {
     let to = ITEM_HEAD + value.len();
-    let end = ITEM_HEAD + value.len().next_multiple_of(8);
+    let end = ITEM_HEAD + value.len().next_multiple_of(PADDED_TO);
     out[ITEM_HEAD..to].copy_from_slice(value);
     out[to..end].fill(0);
 }
@@ -138,7 +127,7 @@ fn put_item(out: &mut [u8], item: Item, values: &[u8])
     ensures { out.new ≡ piece_of values.now item ++ drop (room_of item) out.old }
 {
     put_head(out, item.tag, item.kind, item.length);
-    if item.kind == STRUCTURE_KIND {
+    if item.kind == STRUCTURE {
         return;
     }
     let start = item.start as usize;
@@ -152,7 +141,7 @@ fn as_written(item: Item, behind: &[Numbers]) -> Item
     requires fits { room_for (items_of behind.now) < 2 ^ 32 }
     ensures { result ≡ with_length item (room_for (deeper item.depth (items_of behind.now))) }
 {
-    if item.kind != STRUCTURE_KIND {
+    if item.kind != STRUCTURE {
         return item;
     }
     let length = total_room(members(behind, item.depth)) as u32;

@@ -73,7 +73,7 @@ pub loop-levels-preserved-in-Value : goal.loop-levels-preserved-in-Value
 loop-levels-preserved-in-Value c =
     let turn = turn_of c.requires c.loop-levels.invariant c.loop-levels-test.true c.if-at-end.false in
     let found = rw c.in-Value.is at c.in-Some.ensures in
-    value_more turn c.in-Value.tag c.in-Value.kind c.in-Value.length c.in-Value.next found c.put.new.places c.put.ensures
+    value_more turn c.in-Value.tag c.in-Value.kind c.in-Value.length c.in-Value.next found c.put.new.places (rw c.from.ensures at c.put.ensures)
 
 pub slice_bounds-put-count-in-Structure : goal.slice_bounds-put-count-in-Structure
 slice_bounds-put-count-in-Structure c =

@@ -7,9 +7,9 @@ use Rattle.ttlv.proofs.RoomLaws.{members_few, members_room}
 use Rattle.ttlv.proofs.LayLaws.{written_value, written_structure}
 use Rattle.ttlv.proofs.writing.as_written.Goals as goal
 
-pub returns-then-item-ne-STRUCTURE_KIND : goal.returns-then-item-ne-STRUCTURE_KIND
-returns-then-item-ne-STRUCTURE_KIND c =
-    written_value c.args.item _ c.if-item-ne-STRUCTURE_KIND.true
+pub returns-then-item-ne-STRUCTURE : goal.returns-then-item-ne-STRUCTURE
+returns-then-item-ne-STRUCTURE c =
+    written_value c.args.item _ c.if-item-ne-STRUCTURE.true
 
 pub total_room-length-requires : goal.total_room-length-requires
 total_room-length-requires c =
@@ -23,5 +23,5 @@ overflow_cast-length c =
 
 pub returns : goal.returns
 returns c =
-    written_structure c.args.item _ c.total_room-length.result c.if-item-ne-STRUCTURE_KIND.false
+    written_structure c.args.item _ c.total_room-length.result c.if-item-ne-STRUCTURE.false
     (c.total_room-length.ensures ∙ ap room_for c.members.ensures)

@@ -6,4 +6,4 @@ use Rattle.ttlv.proofs.writing.good_item.Goals as goal
 pub returns : goal.returns
 unfolding good_item
 returns c =
-    rw c.may_be_value.ensures
+    rw c.is_value.ensures
