@@ -1,6 +1,6 @@
 pub mod FrontLaws
 pub mod ListLaws
-pub mod MidLaws
+pub mod WalkLaws
 pub mod ListingLaws
 pub mod ItemsInLaws
 pub mod TreeLaws

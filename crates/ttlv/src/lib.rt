@@ -10,10 +10,12 @@ ghost use Rattle.ttlv.specs.Writing.{write_list};
 
 mod listing;
 mod reading;
+mod walk;
 mod writing;
 
 use listing::list;
-use reading::{front_at, front_of};
+use reading::front_of;
+use walk::Walk;
 use writing::{first_items, good_list, lay, total_room};
 
 pub const DEEPEST: usize = 8;
@@ -40,10 +42,13 @@ pub struct Item {
     pub length: u32,
 }
 
-impl From<[u32; ITEM_PLACES]> for Item {
+// An item's numbers.
+pub(crate) type Numbers = [u32; ITEM_PLACES];
+
+impl From<Numbers> for Item {
     ghost from_gives = { λ numbers item. item ≡ first_item numbers };
 
-    fn from(numbers: [u32; ITEM_PLACES]) -> Item {
+    fn from(numbers: Numbers) -> Item {
         let [tag, kind, depth, start, length] = numbers;
         Item {
             tag,
@@ -99,40 +104,18 @@ pub fn item_at(bytes: &[u8], at: usize, end: usize) -> Option<Front>
     front_of(bytes.get(at..end)?, at)
 }
 
-// Whether the bytes are items, none deeper than eight. `ends` are the ends of the open structures, that of the bytes first; each turn
-// closes the innermost one or takes an item.
+// Whether the bytes are items, none deeper than eight.
 pub fn sound(bytes: &[u8]) -> bool
     ensures { result ≡ is_some (read_items bytes.now) }
 {
-    let mut ends = [0usize; 1 + DEEPEST];
-    ends[0] = bytes.len();
-    let mut levels = 1;
-    let mut at = 0;
-    while levels > 0 {
-        let top = levels - 1;
-        let end = ends[top];
-        if at == end {
-            levels = top;
-            continue;
-        }
-        if levels > DEEPEST {
-            return false;
-        }
-        let Some(front) = front_at(bytes, at, end) else {
-            return false;
-        };
-        match front {
-            Front::Value { next, .. } => {
-                at = next;
-            }
-            Front::Structure { length, .. } => {
-                at += ITEM_HEAD;
-                ends[levels] = at + length;
-                levels += 1;
-            }
+    let mut walk = Walk::new(bytes);
+    loop {
+        match walk.next_item() {
+            Ok(Some(_)) => {}
+            Ok(None) => return true,
+            Err(_) => return false,
         }
     }
-    true
 }
 
 // The items of the bytes as a list, laid at the front of the places; how many they are. What is refused leaves the places as they were.
@@ -145,7 +128,7 @@ pub fn read(bytes: &[u8], places: &mut [u32]) -> Result<usize, ReadError>
     if bytes.len() > MESSAGE_MOST || !sound(bytes) {
         return Err(ReadError::NoItems);
     }
-    Ok(list(bytes, places))
+    list(bytes, places)
 }
 
 // The encoding of the list of the first `count` items, whose values stand among `values`, at the front of the output; how many bytes it

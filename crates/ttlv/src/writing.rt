@@ -6,14 +6,11 @@ ghost use Rattle.ttlv.specs.Writing.{deeper, good_item, good_from, most_behind, 
 ghost use Rattle.ttlv.specs.Pieces.{items_of, Absent, FirstItems, with_length, Room, piece_of, Inside, value_put, Layable, LaidOut};
 
 use crate::reading::{PADDED_TO, STRUCTURE, is_value};
-use crate::{DEEPEST, ITEM_HEAD, ITEM_PLACES, ITEMS_MOST, Item};
+use crate::{DEEPEST, ITEM_HEAD, ITEM_PLACES, ITEMS_MOST, Item, Numbers};
 
 const TAGS: u32 = 0x1000000;
 
 const DEEPEST_ITEM: u32 = DEEPEST as u32;
-
-// An item's numbers.
-pub(crate) type Numbers = [u32; ITEM_PLACES];
 
 // The numbers of the first `count` items, if there are so many, and not too many for a message.
 pub(crate) fn first_items(numbers: &[u32], count: usize) -> Option<&[Numbers]>
