@@ -21,7 +21,7 @@ use Rattle.rules.specs.Ttlv.{Structure, item_head, to_eight, is_value, no_item, 
 use Rattle.rules.specs.Ttlv as ttlv
 use Rattle.rules.specs.Fields.{byte, big, big_endian}
 use Rattle.rules.proofs.TtlvFrontLaws.{on_cond, front_is}
-use Rattle.ttlv.specs.declared.Head.{Head}
+use Rattle.ttlv.specs.declared.reading.Head.{Head}
 use Rattle.ttlv.specs.declared.Front.{Front}
 use Rattle.ttlv.specs.declared.Front.TheVariants.{Value}
 use Rattle.std.specs.Prelude.{Option, Some, None}
@@ -197,12 +197,6 @@ pub fronted : (xs : List ℕ) (at end : ℕ) → at ≤ end → end ≤ length x
 unfolding front_at
 fronted xs at end l m = let both = shows xs at end l m in record { is = both.0; inside = both.1 }
 
--- by what a reading of the run, as it is lent, gave
-pub fronted_by : (xs : List ℕ) (at end : ℕ) → at ≤ end → end ≤ length xs → (r : Option Front)
-    → r ≡ placed at (front (take (end - at) (drop at xs))) → Fronted xs at end r
-unfolding front_at part
-fronted_by xs at end l m r e = rw e (fronted xs at end l m)
-
 -- at any two numbers
 pub item_there : (xs : List ℕ) (at end : ℕ) → at ≤ end → end ≤ length xs → item_at xs at end ≡ front_at xs at end
 unfolding item_at
@@ -215,3 +209,7 @@ item_none xs at end (inr past) =
     on_cond {A = Option Front} (λ r. None ≡ r) (leb at end && leb end (length xs)) (front_at xs at end) None
     (λ t. let l = leb-true end (length xs) (and_right (leb at end) _ t) in absurd (omega arith))
     (λ f. refl)
+
+-- by what was found there
+pub found_fronted : (xs : List ℕ) (at end : ℕ) → at ≤ end → end ≤ length xs → (r : Option Front) → r ≡ item_at xs at end → Fronted xs at end r
+found_fronted xs at end l m r e = rw (e ∙ item_there xs at end l m) (fronted xs at end l m)

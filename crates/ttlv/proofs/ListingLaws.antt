@@ -99,7 +99,7 @@ module _ {xs places now : List ℕ} {w : Walk} {count : ℕ} (g : Listable xs pl
 
   module _ (m : Walk) (i : Found) (over : m.bytes.now ≡ w.bytes.now)
       (on : Onward w.bytes.now w.ends w.levels w.at (item_of i) m.ends m.levels m.at) where
-    pub found_fits : NumbersFit i
+    pub found_fits : NumbersFit (item_of i)
     found_fits =
         let d = on.depth_fits in
         let n = on.inside in

@@ -16,7 +16,10 @@ use Rattle.ttlv.specs.declared.Item.{Item}
 use Rattle.ttlv.specs.declared.Front.TheVariants.{Value, Structure}
 use Rattle.std.specs.Prelude.{Some, None}
 use Rattle.ttlv.specs.ItemList.{is_some, item, list_of, list_at, join}
-use Rattle.ttlv.specs.Reading.{Fronted}
+use Rattle.std.specs.Prelude as places
+use Rattle.ttlv.specs.declared.Front.{Front}
+use Rattle.ttlv.specs.Reading.{Fronted, item_at}
+use Rattle.ttlv.proofs.FrontLaws.{found_fronted}
 use Rattle.ttlv.specs.Walking.{Open, rest, left, Nested, Between, Onward, Starts, Closed}
 use Rattle.ttlv.specs.declared.walk.Walk.{Walk}
 use mathlib.Core.Logic.{inl, inr}
@@ -108,6 +111,10 @@ module _ {xs ends : List ℕ} {levels at : ℕ} (o : Between xs ends levels at) 
 
   pub end_inside : end ≤ length xs
   end_inside = (nested_top xs ends levels at l o.nested).1
+
+  -- what was found here
+  pub found_here : (r : places.Option Front) → r ≡ item_at xs at end → Fronted xs at end r
+  found_here r e = found_fronted xs at end at_end end_inside r e
 
   run_length : length run ≡ end - at
   run_length = let a = at_end in let b = end_inside in length_part at (end - at) xs (omega arith)

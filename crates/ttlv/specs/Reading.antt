@@ -7,7 +7,7 @@ use Rattle.cells.specs.Cells.{part}
 use Rattle.rules.specs.Fields.{byte, big_endian}
 use Rattle.rules.specs.Ttlv.{item_head, deepest, to_eight, no_item, a_value, a_structure, front}
 use Rattle.rules.specs.Ttlv as ttlv
-use Rattle.ttlv.specs.declared.Head.{Head}
+use Rattle.ttlv.specs.declared.reading.Head.{Head}
 use Rattle.ttlv.specs.declared.Front.{Front}
 use Rattle.ttlv.specs.declared.Front.TheVariants.{Value, Structure}
 

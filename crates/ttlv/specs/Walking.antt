@@ -7,7 +7,10 @@ use Rattle.std.proofs.Math.Option.{none, some}
 use Rattle.std.proofs.Math.Option as math
 use Rattle.cells.specs.Cells.{part}
 use Rattle.rules.specs.Ttlv.{item_head, deepest}
+use Rattle.rules.specs.Ttlv as ttlv
 use Rattle.ttlv.specs.declared.Item.{Item}
+use Rattle.ttlv.specs.declared.Front.{Front}
+use Rattle.ttlv.specs.declared.Front.TheVariants.{Value, Structure}
 use Rattle.ttlv.specs.declared.ReadError.{ReadError}
 use Rattle.ttlv.specs.declared.walk.Walk.{Walk}
 use Rattle.ttlv.specs.declared.walk.Found.{Found}
@@ -37,13 +40,17 @@ pub record Onward (xs ends : List ℕ) (levels at : ℕ) (i : Item) (ends' : Lis
   pub inside : i.start + i.length ≤ length xs
   pub taken : rest xs ends levels at ≡ join (some (i ∷ [])) (rest xs ends' levels' at')
 
-abbrev pub item_of : Found → Item
-item_of f = item f.tag f.kind f.depth f.start f.length
+abbrev pub item_found : ℕ → ℕ → Front → Item
+item_found d start (Value tag kind n next) = item tag kind d start n
+item_found d start (Structure tag n) = item tag ttlv.Structure d start n
 
-pub record NumbersFit (f : Found) : Type 0 where
-  pub depth_fits : f.depth < 2 ^ 32
-  pub start_fits : f.start < 2 ^ 32
-  pub length_fits : f.length < 2 ^ 32
+abbrev pub item_of : Found → Item
+item_of f = item_found f.depth f.start f.front
+
+pub record NumbersFit (i : Item) : Type 0 where
+  pub depth_fits : i.depth < 2 ^ 32
+  pub start_fits : i.start < 2 ^ 32
+  pub length_fits : i.length < 2 ^ 32
 
 -- ------------------------------------------------------------------------
 -- The walk itself

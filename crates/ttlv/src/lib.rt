@@ -60,14 +60,6 @@ impl From<Numbers> for Item {
     }
 }
 
-// The head of an item.
-#[derive(Clone, Copy)]
-pub(crate) struct Head {
-    pub tag: u32,
-    pub kind: u8,
-    pub length: usize,
-}
-
 // What stands at the front of a run of bytes, by places: a value and where the next item would start, or a structure.
 #[derive(Clone, Copy)]
 pub enum Front {

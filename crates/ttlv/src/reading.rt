@@ -1,9 +1,9 @@
 // The item at the front of a run of bytes.
-ghost use Rattle.std.specs.Prelude.{◌≡◌, ◌+◌, ◌^◌, ◌≤◌, ◌<◌, length};
+ghost use Rattle.std.specs.Prelude.{◌≡◌, ◌+◌, ◌^◌, ◌<◌, length};
 ghost use Rattle.rules.specs.Ttlv.{is_value, front};
-ghost use Rattle.ttlv.specs.Reading.{Headed, placed, Fronted};
+ghost use Rattle.ttlv.specs.Reading.{Headed, placed};
 
-use crate::{Front, Head, ITEM_HEAD};
+use crate::{Front, ITEM_HEAD};
 
 // (d) Types stay numbers: `Front` and `Item` hold any number, and an enum would be made of it only to be compared once.
 pub(crate) const STRUCTURE: u32 = 0x01;
@@ -18,6 +18,14 @@ const BYTE_STRING: u32 = 0x08;
 
 // A value is padded to a multiple of so many bytes.
 pub(crate) const PADDED_TO: usize = 8;
+
+// The head of an item.
+#[derive(Clone, Copy)]
+struct Head {
+    tag: u32,
+    kind: u8,
+    length: usize,
+}
 
 impl From<[u8; ITEM_HEAD]> for Head {
     ghost from_gives = { λ bytes head. Headed bytes head };
@@ -66,12 +74,4 @@ pub(crate) fn front_of(run: &[u8], at: usize) -> Option<Front>
         length,
         next,
     })
-}
-
-// What stands at `at`, among the bytes up to `end`.
-pub(crate) fn front_at(bytes: &[u8], at: usize, end: usize) -> Option<Front>
-    requires { (at ≤ end) × (end ≤ length bytes.now) }
-    ensures { Fronted bytes.now at end result }
-{
-    front_of(&bytes[at..end], at)
 }

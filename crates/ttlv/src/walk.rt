@@ -3,13 +3,14 @@ ghost use Rattle.std.specs.Prelude.{◌≡◌, ◌+◌, ◌≤◌};
 ghost use Rattle.ttlv.specs.Walking.{Open, Starts, Closed, Walked, NumbersFit, item_of};
 ghost use Rattle.ttlv.specs.Listing.{numbers_of};
 
-use crate::reading::{STRUCTURE, front_at};
-use crate::{DEEPEST, Front, ITEM_HEAD, Numbers, ReadError};
+use crate::reading::STRUCTURE;
+use crate::{DEEPEST, Front, ITEM_HEAD, Numbers, ReadError, item_at};
 
 // The bytes themselves are one more level.
 const LEVELS: usize = DEEPEST + 1;
 
-// Where a walk stands between two items, with the ends of the open structures, that of the bytes first.
+// Where a walk stands between two items. The ends of the open structures, that of the bytes first, are the first `levels` of an array:
+// (a) memory is fixed.
 #[derive(Drop)]
 pub(crate) struct Walk<'a> {
     pub bytes: &'a [u8],
@@ -21,24 +22,31 @@ pub(crate) struct Walk<'a> {
 // An item where it was found, in bytes of any length.
 #[derive(Clone, Copy)]
 pub(crate) struct Found {
-    pub tag: u32,
-    pub kind: u32,
     pub depth: usize,
     pub start: usize,
-    pub length: usize,
+    pub front: Front,
 }
 
 impl Found {
     pub(crate) fn numbers(self) -> Numbers
-        requires { NumbersFit self }
+        requires { NumbersFit (item_of self) }
         ensures { result ≡ numbers_of (item_of self) }
     {
+        let (tag, kind, length) = match self.front {
+            Front::Value {
+                tag,
+                kind,
+                length,
+                ..
+            } => (tag, u32::from(kind), length),
+            Front::Structure { tag, length } => (tag, STRUCTURE, length),
+        };
         [
-            self.tag,
-            self.kind,
+            tag,
+            kind,
             self.depth as u32,
             self.start as u32,
-            self.length as u32,
+            length as u32,
         ]
     }
 }
@@ -78,39 +86,21 @@ impl<'a> Walk<'a> {
             return Err(ReadError::NoItems);
         }
         let end = self.ends[self.levels - 1];
-        let front = front_at(self.bytes, self.at, end).ok_or(ReadError::NoItems)?;
+        let front = item_at(self.bytes, self.at, end).ok_or(ReadError::NoItems)?;
         let depth = self.levels;
         let start = self.at + ITEM_HEAD;
         match front {
-            Front::Value {
-                tag,
-                kind,
-                length,
-                next,
-            } => {
-                self.at = next;
-                let kind = u32::from(kind);
-                Ok(Some(Found {
-                    tag,
-                    kind,
-                    depth,
-                    start,
-                    length,
-                }))
-            }
-            Front::Structure { tag, length } => {
+            Front::Value { next, .. } => self.at = next,
+            Front::Structure { length, .. } => {
                 self.ends[self.levels] = start + length;
                 self.levels += 1;
                 self.at = start;
-                let kind = STRUCTURE;
-                Ok(Some(Found {
-                    tag,
-                    kind,
-                    depth,
-                    start,
-                    length,
-                }))
             }
         }
+        Ok(Some(Found {
+            depth,
+            start,
+            front,
+        }))
     }
 }
