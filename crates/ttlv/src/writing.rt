@@ -23,14 +23,76 @@ pub(crate) fn first_items(numbers: &[u32], count: usize) -> Option<&[Numbers]>
     Some(items)
 }
 
-// The bytes that an item takes.
-fn room(item: Item) -> usize
-    ensures { Room item result }
-{
-    if item.kind == STRUCTURE {
-        return ITEM_HEAD;
+impl Item {
+    // The bytes that it takes.
+    fn room(self) -> usize
+        ensures { Room self result }
+    {
+        if self.kind == STRUCTURE {
+            return ITEM_HEAD;
+        }
+        ITEM_HEAD + (self.length as usize).next_multiple_of(PADDED_TO)
     }
-    ITEM_HEAD + (item.length as usize).next_multiple_of(PADDED_TO)
+
+    // Whether it may stand at depth `most` or less, with its value among n bytes.
+    #[tactic(auto, unfolding(crate::specs::Writing::good_item))]
+    fn is_good(self, n: usize, most: u32) -> bool
+        ensures { result ≡ good_item n most self }
+    {
+        let end = self.start as usize + self.length as usize;
+        self.tag < TAGS
+            && 1 <= self.depth
+            && self.depth <= most
+            && self.depth <= DEEPEST_ITEM
+            && (self.kind == STRUCTURE || is_value(self.kind, self.length as usize) && end <= n)
+    }
+
+    // How deep the next item may stand.
+    fn most_behind(self) -> u32
+        requires { self.depth ≤ deepest }
+        ensures { result ≡ most_behind self }
+    {
+        if self.kind == STRUCTURE {
+            return self.depth + 1;
+        }
+        self.depth
+    }
+
+    // As it is written, with the items behind it: a structure has the length of its members.
+    fn as_written(self, behind: &[Numbers]) -> Item
+        requires few { length behind.now ≤ items_most }
+        requires fits { room_for (items_of behind.now) < 2 ^ 32 }
+        ensures { result ≡ with_length self (room_for (deeper self.depth (items_of behind.now))) }
+    {
+        if self.kind != STRUCTURE {
+            return self;
+        }
+        let length = total_room(members(behind, self.depth)) as u32;
+        Item { length, ..self }
+    }
+
+    fn head(self) -> [u8; ITEM_HEAD]
+        requires { self.kind < 256 }
+        ensures { result ≡ head self.tag self.kind self.length }
+    {
+        let [_, high, middle, low] = self.tag.to_be_bytes();
+        let [a, b, c, d] = self.length.to_be_bytes();
+        [high, middle, low, self.kind as u8, a, b, c, d]
+    }
+
+    // Its bytes, at the front.
+    fn put(self, out: &mut [u8], values: &[u8])
+        requires { (room_of self ≤ length out.old) × Inside values.now self }
+        ensures { out.new ≡ piece_of values.now self ++ drop (room_of self) out.old }
+    {
+        out[..ITEM_HEAD].copy_from_slice(&self.head());
+        if self.kind == STRUCTURE {
+            return;
+        }
+        let start = self.start as usize;
+        let stop = start + self.length as usize;
+        put_value(out, &values[start..stop]);
+    }
 }
 
 // The bytes of all items.
@@ -38,7 +100,10 @@ pub(crate) fn total_room(items: &[Numbers]) -> usize
     requires { length items.now ≤ items_most }
     ensures { result ≡ room_for (items_of items.now) }
 {
-    items.iter().map(|numbers| room(Item::from(*numbers))).sum()
+    items
+        .iter()
+        .map(|numbers| Item::from(*numbers).room())
+        .sum()
 }
 
 // The place of the first item that is not deeper than `depth`.
@@ -58,30 +123,6 @@ fn members(items: &[Numbers], depth: u32) -> &[Numbers]
     &items[..count]
 }
 
-// Whether an item may stand at depth `most` or less, with its value among n bytes.
-fn good_item(item: Item, n: usize, most: u32) -> bool
-    ensures { result ≡ good_item n most item }
-{
-    (item.tag < TAGS)
-        & (1 <= item.depth)
-        & (item.depth <= most)
-        & (item.depth <= DEEPEST_ITEM)
-        & ((item.kind == STRUCTURE)
-            | (is_value(item.kind, item.length as usize)
-                & (item.start as usize + item.length as usize <= n)))
-}
-
-// How deep the next item may stand.
-fn most_behind(item: Item) -> u32
-    requires { item.depth ≤ deepest }
-    ensures { result ≡ most_behind item }
-{
-    if item.kind == STRUCTURE {
-        return item.depth + 1;
-    }
-    item.depth
-}
-
 // Whether each item may stand where it stands.
 pub(crate) fn good_list(items: &[Numbers], n: usize) -> bool
     ensures { result ≡ good_from n 1 (items_of items.now) }
@@ -89,22 +130,12 @@ pub(crate) fn good_list(items: &[Numbers], n: usize) -> bool
     let mut most = 1;
     for numbers in items {
         let item = Item::from(*numbers);
-        if !good_item(item, n, most) {
+        if !item.is_good(n, most) {
             return false;
         }
-        most = most_behind(item);
+        most = item.most_behind();
     }
     true
-}
-
-// The head of an item, at the front.
-fn put_head(out: &mut [u8], tag: u32, kind: u32, n: u32)
-    requires { (item_head ≤ length out.old) × (kind < 256) }
-    ensures { out.new ≡ head tag kind n ++ drop item_head out.old }
-{
-    let [_, high, middle, low] = tag.to_be_bytes();
-    let [a, b, c, d] = n.to_be_bytes();
-    out[..ITEM_HEAD].copy_from_slice(&[high, middle, low, kind as u8, a, b, c, d]);
 }
 
 // A value and its padding, behind the head's place.
@@ -118,33 +149,6 @@ fn put_value(out: &mut [u8], value: &[u8])
     out[to..end].fill(0);
 }
 
-// One item's bytes, at the front.
-fn put_item(out: &mut [u8], item: Item, values: &[u8])
-    requires { (room_of item ≤ length out.old) × Inside values.now item }
-    ensures { out.new ≡ piece_of values.now item ++ drop (room_of item) out.old }
-{
-    put_head(out, item.tag, item.kind, item.length);
-    if item.kind == STRUCTURE {
-        return;
-    }
-    let start = item.start as usize;
-    let stop = start + item.length as usize;
-    put_value(out, &values[start..stop]);
-}
-
-// An item as it is written, with the items behind it: a structure has the length of its members.
-fn as_written(item: Item, behind: &[Numbers]) -> Item
-    requires few { length behind.now ≤ items_most }
-    requires fits { room_for (items_of behind.now) < 2 ^ 32 }
-    ensures { result ≡ with_length item (room_for (deeper item.depth (items_of behind.now))) }
-{
-    if item.kind != STRUCTURE {
-        return item;
-    }
-    let length = total_room(members(behind, item.depth)) as u32;
-    Item { length, ..item }
-}
-
 // The items, one after another, at the front; how many bytes they take.
 pub(crate) fn lay(out: &mut [u8], items: &[Numbers], values: &[u8]) -> usize
     requires { Layable (items_of items.now) values.now out.old }
@@ -153,9 +157,9 @@ pub(crate) fn lay(out: &mut [u8], items: &[Numbers], values: &[u8]) -> usize
     let mut at = 0;
     let mut left = items;
     while let [numbers, behind @ ..] = left {
-        let item = as_written(Item::from(*numbers), behind);
-        put_item(&mut out[at..], item, values);
-        at += room(item);
+        let item = Item::from(*numbers).as_written(behind);
+        item.put(&mut out[at..], values);
+        at += item.room();
         left = behind;
     }
     at

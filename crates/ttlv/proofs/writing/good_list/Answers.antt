@@ -5,17 +5,17 @@ use Rattle.ttlv.proofs.GoodLaws.{good_depth}
 use Rattle.ttlv.proofs.ItemLoopLaws.{next_item, no_item, good_more, good_stop, good_end}
 use Rattle.ttlv.proofs.writing.good_list.Goals as goal
 
-pub returns-then-not-good_item : goal.returns-then-not-good_item
-returns-then-not-good_item c =
+pub returns-then-not-is_good : goal.returns-then-not-is_good
+returns-then-not-is_good c =
     let s = c.args in
     let l = c.loop-numbers in
     let w = c.from-item in
     let step = next_item l.numbers-index s.items.now w.result w.ensures c.loop-numbers-test.true in
-    good_stop s.n l.most _ w.result _ step (sym c.good_item.ensures ∙ c.if-not-good_item.true) ∙ l.invariant
+    good_stop s.n l.most _ w.result _ step (sym c.is_good.ensures ∙ c.if-not-is_good.true) ∙ l.invariant
 
 pub most_behind-most-requires : goal.most_behind-most-requires
 most_behind-most-requires c =
-    good_depth c.args.n c.loop-numbers.most c.from-item.result (sym c.good_item.ensures ∙ c.if-not-good_item.false)
+    good_depth c.args.n c.loop-numbers.most c.from-item.result (sym c.is_good.ensures ∙ c.if-not-is_good.false)
 
 pub loop-numbers-preserved : goal.loop-numbers-preserved
 loop-numbers-preserved c =
@@ -24,7 +24,7 @@ loop-numbers-preserved c =
     let w = c.from-item in
     let b = c.most_behind-most in
     let step = next_item l.numbers-index s.items.now w.result w.ensures c.loop-numbers-test.true in
-    good_more s.n l.most _ w.result _ b.result step (sym c.good_item.ensures ∙ c.if-not-good_item.false) b.ensures ∙ l.invariant
+    good_more s.n l.most _ w.result _ b.result step (sym c.is_good.ensures ∙ c.if-not-is_good.false) b.ensures ∙ l.invariant
 
 pub returns : goal.returns
 returns c =

@@ -25,8 +25,8 @@ as_written-item-requires-clause-fits c =
     let step = first_lent c.loop-left.left.now c.from.result c.from.ensures c.in-len1-up.len_at_least in
     left_fits c.from.result c.loop-left.invariant c.requires.fits step
 
-pub put_item-requires : goal.put_item-requires
-put_item-requires c =
+pub put-requires : goal.put-requires
+put-requires c =
     let step = first_lent c.loop-left.left.now c.from.result c.from.ensures c.in-len1-up.len_at_least in
     let piece = piece_of c.requires c.loop-left.invariant step c.as_written-item.ensures in
     (piece_lent piece, piece_inside piece)
@@ -43,7 +43,7 @@ pub loop-left-preserved : goal.loop-left-preserved
 loop-left-preserved c =
     let step = first_lent c.loop-left.left.now c.from.result c.from.ensures c.in-len1-up.len_at_least in
     let piece = piece_of c.requires c.loop-left.invariant step c.as_written-item.ensures in
-    lay_more piece c.put_item.new.out c.room-at.result c.put_item.ensures c.room-at.ensures.is
+    lay_more piece c.put.new.out c.room-at.result c.put.ensures c.room-at.ensures.is
 
 pub returns : goal.returns
 returns c =
