@@ -1,25 +1,21 @@
--- What the reader's own functions leave, in terms of the rules; and where a
--- reading stands between two items.
+-- What the reader's own functions leave, in terms of the rules.
 -- Assumes nothing.
-use Rattle.std.specs.Prelude.{◌≡◌, ◌&&◌, cond, List, [], ℕ, zero, suc, ◌+◌, ◌-◌, ◌*◌, ◌^◌, ◌≤◌, ◌<◌, length, get_or, leb}
+use Rattle.std.specs.Prelude.{◌≡◌, ◌&&◌, cond, List, [], ◌∷◌, ℕ, ◌+◌, ◌-◌, ◌^◌, ◌≤◌, ◌<◌}
+use Rattle.std.specs.Prelude.{length, leb}
 use Rattle.std.specs.Prelude.{Option, Some, None}
-use Rattle.std.proofs.Math.Option.{some}
-use Rattle.std.proofs.Math.Option as math
 use Rattle.cells.specs.Cells.{part}
-use Rattle.rules.specs.Fields.{big_endian}
+use Rattle.rules.specs.Fields.{byte, big_endian}
 use Rattle.rules.specs.Ttlv.{item_head, deepest, to_eight, no_item, a_value, a_structure, front}
 use Rattle.rules.specs.Ttlv as ttlv
-use Rattle.ttlv.specs.declared.Item.{Item}
-use Rattle.ttlv.specs.declared.Head.{Head}
+use Rattle.ttlv.specs.declared.reading.Head.{Head}
 use Rattle.ttlv.specs.declared.Front.{Front}
 use Rattle.ttlv.specs.declared.Front.TheVariants.{Value, Structure}
-use Rattle.ttlv.specs.ItemList.{list_at, join}
 
--- the head that stands at `at`
-pub record Headed (xs : List ℕ) (at : ℕ) (r : Head) : Type 0 where
-  pub tag_is : big_endian (part at 3 xs) ≡ r.tag
-  pub kind_is : get_or xs (at + 3) 0 ≡ r.kind
-  pub length_is : big_endian (part (at + 4) 4 xs) ≡ r.length
+-- eight bytes as a head
+pub record Headed (bytes : List ℕ) (r : Head) : Type 0 where
+  pub tag_is : r.tag ≡ big_endian (byte 0 bytes ∷ byte 1 bytes ∷ byte 2 bytes ∷ [])
+  pub kind_is : r.kind ≡ byte 3 bytes
+  pub length_is : r.length ≡ big_endian (byte 4 bytes ∷ byte 5 bytes ∷ byte 6 bytes ∷ byte 7 bytes ∷ [])
   pub length_fits : r.length < 2 ^ 32
 
 -- a front that begins at `at`, by places: a value's length and where the next item would start, a structure's length
@@ -51,24 +47,3 @@ Inside at end (Some (Structure tag n)) = at + item_head + n ≤ end
 pub record Fronted (xs : List ℕ) (at end : ℕ) (r : Option Front) : Type 0 where
   pub is : front (part at (end - at) xs) ≡ shown xs at end r
   pub inside : Inside at end r
-
--- ------------------------------------------------------------------------
--- Between two items: some structures are open, each end inside the one before it
-
--- what is still to be read: from `at` to the innermost end, then from there to the next one, and so on
-unfoldable pub rest : List ℕ → List ℕ → ℕ → ℕ → math.Option (List Item)
-rest xs ends zero at = some []
-rest xs ends (suc k) at = join (list_at (suc k) at (part at (get_or ends k 0 - at) xs)) (rest xs ends k (get_or ends k 0))
-
-unfoldable pub Nested : List ℕ → List ℕ → ℕ → ℕ → Type 0
-Nested xs ends zero at = Unit {0}
-Nested xs ends (suc k) at = (at ≤ get_or ends k 0) × (get_or ends k 0 ≤ length xs) × Nested xs ends k (get_or ends k 0)
-
--- the items so far, and what is left completes the whole
-pub record Mid (xs ends : List ℕ) (levels at : ℕ) (done : List Item) : Type 0 where
-  pub inside : at ≤ length xs
-  pub few : levels ≤ suc deepest
-  pub nested : Nested xs ends levels at
-  pub room : item_head * length done ≤ at
-  pub spaces : length ends ≡ suc deepest
-  pub whole : join (some done) (rest xs ends levels at) ≡ list_at 1 0 xs
