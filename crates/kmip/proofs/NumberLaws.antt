@@ -3,7 +3,6 @@
 use mathlib.Core.Path.{◌≡◌, refl, sym, ap, ◌∙◌}
 use mathlib.Core.Bool.{or-false, true, ◌&&◌}
 use mathlib.Core.List.{List, [], ◌∷◌}
-use mathlib.Core.Logic.{◌⊎◌, inl, inr}
 use Prim.Native.Nat.{ℕ}
 use native.Mathlib.Omega.{arith}
 use lib.ListN.{length}
@@ -19,8 +18,10 @@ use Rattle.std.specs.Ordering.{nat_cmp, is_le, is_lt}
 use Rattle.cells.specs.Predicates.{same}
 use Rattle.std.specs.Result.{MatchResult, IsOk, result_ok}
 use Rattle.rules.specs.Fields.{big_endian}
-use Rattle.rules.specs.Ttlv.{Integer, Enumeration, is_value}
-use Rattle.kmip.specs.Runs.{GivesIf}
+use Rattle.rules.specs.Ttlv.{is_value}
+use Rattle.kmip.specs.declared.rows.NumberType.{NumberType}
+use Rattle.kmip.specs.declared.rows.NumberType.TheVariants.{Integer, Enumeration}
+use Rattle.kmip.specs.Runs.{type_of, GivesIf}
 
 -- what was told of a result by its variant, at what `ok` leaves of it
 pub ok_told : {A E : Type 0} (P : A → Type 0) (Q : E → Type 0) (r : Result A E) (y : A) → MatchResult r P Q → Some y ≡ result_ok r → P y
@@ -37,10 +38,10 @@ pub not_ok : {A E : Type 0} (r : Result A E) → IsOk r → None ≡ result_ok r
 not_ok (Ok x) ok e = cc
 not_ok (Err x) ok e = cc
 
-pub four_long : (kind n : ℕ) → (kind ≡ Integer) ⊎ (kind ≡ Enumeration) → is_value kind n ≡ true → n ≡ 4
+pub four_long : (kind : NumberType) (n : ℕ) → is_value (type_of kind) n ≡ true → n ≡ 4
 unfolding is_value
-four_long kind n (inl i) h = eqb-true n 4 (sym (or-false (eqb n 4)) ∙ sym (ap (λ k. is_value k n) i) ∙ h)
-four_long kind n (inr e) h = eqb-true n 4 (sym (or-false (eqb n 4)) ∙ sym (ap (λ k. is_value k n) e) ∙ h)
+four_long Integer n h = eqb-true n 4 (sym (or-false (eqb n 4)) ∙ h)
+four_long Enumeration n h = eqb-true n 4 (sym (or-false (eqb n 4)) ∙ h)
 
 pub of_four : (bytes : List ℕ) → length bytes ≡ 4 → from_be_bytes w32 bytes ≡ big_endian bytes
 unfolding big_endian

@@ -22,7 +22,7 @@ use Rattle.ttlv.specs.declared.Front.{Front}
 use Rattle.ttlv.specs.declared.Front.TheVariants.{Value, Structure}
 use Rattle.ttlv.specs.ItemList.{is_some}
 use Rattle.ttlv.specs.Reading.{item_at, Fronted}
-use Rattle.ttlv.proofs.FrontLaws.{fronted, item_there}
+use Rattle.ttlv.proofs.FrontLaws.{found_fronted}
 use Rattle.kmip.specs.Runs.{or_end, items_in}
 
 -- ------------------------------------------------------------------------
@@ -47,7 +47,8 @@ with_structure_some tag (some members) (some behind) items e = (members, behind,
 -- ------------------------------------------------------------------------
 -- What is read at some depth is read one nearer to the surface as well
 
-module _ (r : ℕ → List ℕ → Option Items) (up : (d : ℕ) (xs : List ℕ) (items : Items) → r (suc d) xs ≡ some items → r d xs ≡ some items) where
+module _ (r : ℕ → List ℕ → Option Items)
+    (up : (d : ℕ) (xs : List ℕ) (items : Items) → r (suc d) xs ≡ some items → r d xs ≡ some items) where
   front_up : (d : ℕ) (f : ttlv.Front) (items : Items) → on_front r (suc d) f ≡ some items → on_front r d f ≡ some items
   unfolding on_front with_value with_structure
   front_up d no_item items e = e
@@ -145,7 +146,7 @@ unfolding part
 whole xs = let z : length xs - 0 ≡ length xs = omega arith in rw z (take-length xs)
 
 stands : (xs : List ℕ) (r : std.Option Front) → item_at xs 0 (length xs) ≡ r → Fronted xs 0 (length xs) r
-stands xs r e = rw (sym (item_there xs 0 (length xs) (omega arith) (omega arith)) ∙ e) at (fronted xs 0 (length xs) (omega arith) (omega arith))
+stands xs r e = found_fronted xs 0 (length xs) (omega arith) (omega arith) r (sym e)
 
 abbrev pub lent : ℕ → ℕ → List ℕ → List ℕ
 lent from to xs = take (to - from) (drop from xs)

@@ -134,7 +134,8 @@ unfolding value_then
 not_value kind tag (Value k bytes) behind other good more = rw (ne_eqb k kind (λ e. other bytes (ap (λ j. Value j bytes) e)))
 not_value kind tag (Structure run) behind other good more = refl
 
-pub no_value : (kind tag : ℕ) (body : Body) (behind items : Items) → items ≡ with_body tag body behind → ((bytes : Bor (List ℕ)) → body ≡ Value kind bytes → ⊥)
+pub no_value : (kind tag : ℕ) (body : Body) (behind items : Items) → items ≡ with_body tag body behind
+    → ((bytes : Bor (List ℕ)) → body ≡ Value kind bytes → ⊥)
     → (good : List ℕ → Bool) (more : Items → Bool) → value_then kind good more items ≡ false
 no_value kind tag body behind items e other good more = ap (value_then kind good more) e ∙ not_value kind tag body behind other good more
 

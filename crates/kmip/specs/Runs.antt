@@ -5,12 +5,15 @@ use Rattle.std.specs.Prelude.{◌≡◌, Bool, true, false, List, ◌∷◌, ℕ
 use Rattle.std.proofs.Math.Option as math
 use Rattle.std.specs.Borrow.{Bor}
 use Rattle.rules.specs.Fields.{big_endian}
+use Rattle.rules.specs.Ttlv as ttlv
 use Rattle.rules.specs.Ttlv.{Items, end, value, structure, is_value, read_items}
 use Rattle.rules.specs.Kmip.{Want, ◌is_a◌with◌, ◌holds◌, from, behind_of, members_of, value_then, structure_then, in_order, Operation, RequestPayload}
 use Rattle.kmip.specs.declared.run.Run.{Run}
 use Rattle.kmip.specs.declared.members.Body.{Body}
 use Rattle.kmip.specs.declared.members.Body.TheVariants.{Value, Structure}
 use Rattle.kmip.specs.declared.members.Item.{Item}
+use Rattle.kmip.specs.declared.rows.NumberType.{NumberType}
+use Rattle.kmip.specs.declared.rows.NumberType.TheVariants.{Integer, Enumeration}
 
 abbrev pub or_end : math.Option Items → Items
 or_end math.none = end
@@ -47,6 +50,10 @@ abbrev pub FoundValue : ℕ → ℕ → Items → Option (Bor (List ℕ) × Run)
 FoundValue tag kind items r =
     MatchOption r ((good : List ℕ → Bool) (more : Items → Bool) → value_then kind good more (from tag items) ≡ false)
     (λ p. (from tag items ≡ value tag kind p.0.now (items_of p.1)) × (is_value kind (length p.0.now) ≡ true))
+
+abbrev pub type_of : NumberType → ℕ
+type_of Integer = ttlv.Integer
+type_of Enumeration = ttlv.Enumeration
 
 abbrev pub FoundNumber : ℕ → ℕ → Items → Option (ℕ × Run) → Type 0
 FoundNumber tag kind items r =

@@ -6,8 +6,8 @@ ghost use Rattle.rules.specs.Kmip.{named as firstNamed, attributes as attributes
 ghost use Rattle.kmip.specs.Runs.{items_of, GivesIf};
 
 use crate::Slot;
-use crate::members::{Body, ENUMERATION, INTEGER, Item, TEXT, structure, value};
-use crate::rows::{numbered, worded};
+use crate::members::{Body, Item, TEXT, structure, value};
+use crate::rows::{NumberType, numbered, worded};
 use crate::run::Run;
 
 const ATTRIBUTE: u32 = 0x420008;
@@ -29,10 +29,7 @@ fn vendored(attribute: Run<'_>) -> bool
     ensures { result ≡ isVendored (items_of attribute.entry) }
 {
     worded(attribute, VENDOR_IDENTIFICATION, b"TCG-SWG")
-        && match value(attribute, ATTRIBUTE_NAME, TEXT) {
-            Some((name, _)) => name != b"UID".as_slice(),
-            None => false,
-        }
+        && value(attribute, ATTRIBUTE_NAME, TEXT).is_some_and(|(name, _)| name != b"UID".as_slice())
 }
 
 // Whether every Attribute is so.
@@ -61,36 +58,30 @@ fn named<'a>(mut run: Run<'a>, name: &[u8]) -> Option<Run<'a>>
 fn valued(run: Run<'_>, name: &[u8], n: usize) -> bool
     ensures { result ≡ has (AttributeValue is_a Integer with is n) (firstNamed name.now (items_of run.entry)) }
 {
-    match named(run, name) {
-        Some(attribute) => numbered(attribute, ATTRIBUTE_VALUE, INTEGER, n).is_some(),
-        None => false,
-    }
+    named(run, name).is_some_and(|attribute| {
+        numbered(attribute, ATTRIBUTE_VALUE, NumberType::Integer, n).is_some()
+    })
 }
 
 // The members of Cryptographic Parameters with the role of a media key.
-fn parameters<'a>(run: Run<'a>) -> Option<Run<'a>>
+fn parameters(run: Run<'_>) -> Option<Run<'_>>
     ensures { let items = items_of run.entry in
         GivesIf (has (CryptographicParameters holds has (KeyRoleType is_a Enumeration with is DEK)) items)
         (λ parameters. items_of parameters) (members_of (from CryptographicParameters items)) result }
 {
     let (parameters, _) = structure(run, CRYPTOGRAPHIC_PARAMETERS)?;
-    numbered(parameters, KEY_ROLE_TYPE, ENUMERATION, ROLE_DEK)?;
+    numbered(parameters, KEY_ROLE_TYPE, NumberType::Enumeration, ROLE_DEK)?;
     Some(parameters)
 }
 
 // The members of Cryptographic Parameters, if all else is well too.
-pub(crate) fn attributes<'a>(run: Run<'a>, slot: Slot) -> Option<Run<'a>>
+pub(crate) fn attributes(run: Run<'_>, slot: Slot) -> Option<Run<'_>>
     ensures { let items = items_of run.entry in
         GivesIf (attributesGood slot.namespace slot.tag items)
         (λ parameters. items_of parameters) (members_of (from CryptographicParameters items)) result }
 {
     let parameters = parameters(run)?;
-    if each_vendored(run)
+    (each_vendored(run)
         && valued(run, b"NamespaceID", slot.namespace)
-        && valued(run, b"KeyTag", slot.tag)
-    {
-        Some(parameters)
-    } else {
-        None
-    }
+        && valued(run, b"KeyTag", slot.tag)).then_some(parameters)
 }

@@ -8,10 +8,6 @@ ghost use Rattle.kmip.specs.Runs.{items_of, First, Found, FoundStructure, FoundV
 use crate::run::Run;
 use ttlv::{Front, ITEM_HEAD, item_at};
 
-pub(crate) const INTEGER: u8 = 0x02;
-
-pub(crate) const ENUMERATION: u8 = 0x05;
-
 pub(crate) const TEXT: u8 = 0x07;
 
 pub(crate) const BYTE_STRING: u8 = 0x08;
@@ -30,7 +26,7 @@ pub(crate) struct Item<'a> {
 }
 
 // The item at the front, and the run behind it.
-fn first<'a>(run: Run<'a>) -> Option<(Item<'a>, Run<'a>)>
+fn first(run: Run<'_>) -> Option<(Item<'_>, Run<'_>)>
     ensures { MatchOption result (items_of run.entry ≡ end) (λ p. First run.entry p.0 p.1) }
 {
     let bytes = run.bytes;
@@ -43,24 +39,15 @@ fn first<'a>(run: Run<'a>) -> Option<(Item<'a>, Run<'a>)>
         } => {
             let value = &bytes[ITEM_HEAD..ITEM_HEAD + length];
             let body = Body::Value { kind, bytes: value };
-            Some((
-                Item { tag, body },
-                Run {
-                    bytes: &bytes[next..],
-                },
-            ))
+            let bytes = &bytes[next..];
+            Some((Item { tag, body }, Run { bytes }))
         }
         Front::Structure { tag, length } => {
             let next = ITEM_HEAD + length;
-            let body = Body::Structure(Run {
-                bytes: &bytes[ITEM_HEAD..next],
-            });
-            Some((
-                Item { tag, body },
-                Run {
-                    bytes: &bytes[next..],
-                },
-            ))
+            let members = &bytes[ITEM_HEAD..next];
+            let body = Body::Structure(Run { bytes: members });
+            let bytes = &bytes[next..];
+            Some((Item { tag, body }, Run { bytes }))
         }
     }
 }
@@ -80,7 +67,7 @@ impl<'a> Iterator for Run<'a> {
 }
 
 // The first item with this tag, and the run behind it.
-fn find<'a>(mut run: Run<'a>, tag: u32) -> Option<(Body<'a>, Run<'a>)>
+fn find(mut run: Run<'_>, tag: u32) -> Option<(Body<'_>, Run<'_>)>
     ensures { Found tag (items_of run.entry) result }
 {
     let item = run.find(|item| item.tag == tag)?;
@@ -88,7 +75,7 @@ fn find<'a>(mut run: Run<'a>, tag: u32) -> Option<(Body<'a>, Run<'a>)>
 }
 
 // The first item with this tag, if it is a value of this type: the value, and the run behind it.
-pub(crate) fn value<'a>(run: Run<'a>, tag: u32, kind: u8) -> Option<(&'a [u8], Run<'a>)>
+pub(crate) fn value(run: Run<'_>, tag: u32, kind: u8) -> Option<(&[u8], Run<'_>)>
     ensures { FoundValue tag kind (items_of run.entry) result }
 {
     let (body, behind) = find(run, tag)?;
@@ -99,7 +86,7 @@ pub(crate) fn value<'a>(run: Run<'a>, tag: u32, kind: u8) -> Option<(&'a [u8], R
 }
 
 // The first item with this tag, if it is a structure: its members, and the run behind it.
-pub(crate) fn structure<'a>(run: Run<'a>, tag: u32) -> Option<(Run<'a>, Run<'a>)>
+pub(crate) fn structure(run: Run<'_>, tag: u32) -> Option<(Run<'_>, Run<'_>)>
     ensures { FoundStructure tag (items_of run.entry) result }
 {
     let (body, behind) = find(run, tag)?;

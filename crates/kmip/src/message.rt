@@ -8,8 +8,8 @@ ghost use Rattle.kmip.specs.Runs.{items_of, GivesIf, payload_of};
 use crate::Slot;
 use crate::attributes::attributes;
 use crate::keys::{aes, symmetric};
-use crate::members::{Body, ENUMERATION, TEXT, structure, value};
-use crate::rows::{header, numbered};
+use crate::members::{Body, TEXT, structure, value};
+use crate::rows::{NumberType, header, numbered};
 use crate::run::{Run, run_of};
 use rules::KEY_SIZE;
 
@@ -43,35 +43,31 @@ pub(crate) struct Load<'a> {
 }
 
 // Request Payload: Unique Identifier, Object Type, Attributes, Symmetric Key.
-fn payload<'a>(run: Run<'a>, slot: Slot) -> Option<Load<'a>>
+fn payload(run: Run<'_>, slot: Slot) -> Option<Load<'_>>
     ensures { let items = items_of run.entry in
         GivesIf (payload_good slot.namespace slot.tag items) shown (brought_by items) result }
 {
     let (uid, rest) = value(run, UNIQUE_IDENTIFIER, TEXT)?;
-    let rest = numbered(rest, OBJECT_TYPE, ENUMERATION, A_SYMMETRIC_KEY)?;
+    let rest = numbered(rest, OBJECT_TYPE, NumberType::Enumeration, A_SYMMETRIC_KEY)?;
     let (members, rest) = structure(rest, ATTRIBUTES)?;
     let parameters = attributes(members, slot)?;
     let (members, _) = structure(rest, SYMMETRIC_KEY)?;
     let (block, key) = symmetric(members)?;
-    if aes(parameters, block) {
-        Some(Load { uid, key })
-    } else {
-        None
-    }
+    aes(parameters, block).then_some(Load { uid, key })
 }
 
 // Batch Item: Operation Import, Request Payload.
-fn batch<'a>(run: Run<'a>, slot: Slot) -> Option<Load<'a>>
+fn batch(run: Run<'_>, slot: Slot) -> Option<Load<'_>>
     ensures { let items = items_of run.entry in
         GivesIf (in_order (batch_item slot.namespace slot.tag) items) shown (brought_by (payload_of items)) result }
 {
-    let rest = numbered(run, OPERATION, ENUMERATION, IMPORT)?;
+    let rest = numbered(run, OPERATION, NumberType::Enumeration, IMPORT)?;
     let (members, _) = structure(rest, REQUEST_PAYLOAD)?;
     payload(members, slot)
 }
 
 // Request Message: Request Header, Batch Item.
-fn message<'a>(run: Run<'a>, slot: Slot) -> Option<Load<'a>>
+fn message(run: Run<'_>, slot: Slot) -> Option<Load<'_>>
     ensures { let items = items_of run.entry in
         GivesIf (in_order (request_message slot.namespace slot.tag) items) shown
         (brought_by (payload_of (members_of (from BatchItem (behind_of (from RequestHeader items)))))) result }
@@ -85,7 +81,7 @@ fn message<'a>(run: Run<'a>, slot: Slot) -> Option<Load<'a>>
 }
 
 // Exactly one outermost item, Request Message.
-pub(crate) fn request<'a>(bytes: &'a [u8], slot: Slot) -> Option<Load<'a>>
+pub(crate) fn request(bytes: &[u8], slot: Slot) -> Option<Load<'_>>
     ensures { loaded result ≡ load_of slot.namespace slot.tag bytes.now }
 {
     let mut run = run_of(bytes)?;

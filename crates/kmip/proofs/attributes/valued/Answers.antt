@@ -1,18 +1,21 @@
 -- `valued` meets its contract.
 -- Assumes nothing.
-use mathlib.Core.Path.{sym, ap, ◌∙◌}
+use mathlib.Core.Path.{◌≡◌, sym, ap, ◌∙◌}
+use borrow.Author.Rules.{rules}
+use borrow.Author.Tests.{tests}
 use Rattle.rules.specs.Ttlv.{Integer}
-use Rattle.rules.specs.Kmip.{from, in_order, value_then, has, ◌is_a◌with◌, is, AttributeValue}
+use Rattle.rules.specs.Kmip.{from, in_order, value_then, has, ◌is_a◌with◌, is, named, AttributeValue}
 use Rattle.kmip.specs.Runs.{items_of}
-use Rattle.kmip.proofs.RowLaws.{row_alone}
+use Rattle.kmip.proofs.RowLaws.{row_alone, some_and}
 use Rattle.kmip.proofs.attributes.valued.Goals as goal
 
-pub returns-in-Some : goal.returns-in-Some
-returns-in-Some c =
-    c.is_some.ensures
-    ∙ row_alone (AttributeValue is_a Integer with is c.args.n) (items_of c.in-Some.attribute) _ c.numbered.ensures
-    ∙ ap (has (AttributeValue is_a Integer with is c.args.n)) (sym c.in-Some.ensures)
-
-pub returns-in-None : goal.returns-in-None
+pub returns : goal.returns
 unfolding in_order value_then from
-returns-in-None c = sym (ap (has (AttributeValue is_a Integer with is c.args.n)) c.in-None.ensures)
+returns c =
+    let good = has (AttributeValue is_a Integer with is c.args.n) in
+    let members = named c.args.name.now (items_of c.args.run) in
+    some_and _ _ _ c.named.result c.is_some_and.result (good members) c.is_some_and.ensures c.named.ensures
+    (λ missed. ap good missed)
+    (λ attribute tested found.
+    let told : c.is_some_and.result ≡ has (AttributeValue is_a Integer with is c.args.n) (items_of attribute) = search (rules, tests, row_alone) in
+    told ∙ ap good (sym found))

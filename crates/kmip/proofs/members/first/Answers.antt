@@ -28,12 +28,12 @@ slice_bounds-value-end c =
     let i = value_inside c.args.run.bytes.now c.args.run.sound _ _ _ _ (a_value c) in
     omega (arith, i.0, i.1)
 
-pub slice_bounds-result-count : goal.slice_bounds-result-count
-slice_bounds-result-count c = (value_inside c.args.run.bytes.now c.args.run.sound _ _ _ _ (a_value (goal.at.slice_bounds-result-count c).In-Value)).1
+pub slice_bounds-bytes-count : goal.slice_bounds-bytes-count
+slice_bounds-bytes-count c = (value_inside c.args.run.bytes.now c.args.run.sound _ _ _ _ (a_value (goal.at.slice_bounds-bytes-count c).In-Value)).1
 
-pub slice_bounds-result-start : goal.slice_bounds-result-start
-slice_bounds-result-start c =
-    let i = value_inside c.args.run.bytes.now c.args.run.sound _ _ _ _ (a_value (goal.at.slice_bounds-result-start c).In-Value) in
+pub slice_bounds-bytes-start : goal.slice_bounds-bytes-start
+slice_bounds-bytes-start c =
+    let i = value_inside c.args.run.bytes.now c.args.run.sound _ _ _ _ (a_value (goal.at.slice_bounds-bytes-start c).In-Value) in
     omega (arith, i.0, i.1)
 
 pub invariant_of-result : goal.invariant_of-result
@@ -55,22 +55,22 @@ overflow_add-next c =
     let i = structure_inside c.args.run.bytes.now c.args.run.sound _ _ (a_structure c) in
     omega (arith, i)
 
-pub slice_bounds-body-end : goal.slice_bounds-body-end
-slice_bounds-body-end c =
-    let i = structure_inside c.args.run.bytes.now c.args.run.sound _ _ (a_structure (goal.at.slice_bounds-body-end c).In-Structure) in
+pub slice_bounds-members-end : goal.slice_bounds-members-end
+slice_bounds-members-end c =
+    let i = structure_inside c.args.run.bytes.now c.args.run.sound _ _ (a_structure (goal.at.slice_bounds-members-end c).In-Structure) in
     omega (arith, i)
 
 pub invariant_of-body : goal.invariant_of-body
 invariant_of-body c =
     record { sound = (structure_here c.args.run.bytes.now c.args.run.sound _ _ (a_structure (goal.at.invariant_of-body c).In-Structure)).1 }
 
-pub slice_bounds-result-count-in-Structure : goal.slice_bounds-result-count-in-Structure
-slice_bounds-result-count-in-Structure c =
-    structure_inside c.args.run.bytes.now c.args.run.sound _ _ (a_structure (goal.at.slice_bounds-result-count-in-Structure c).In-Structure)
+pub slice_bounds-bytes-count-in-Structure : goal.slice_bounds-bytes-count-in-Structure
+slice_bounds-bytes-count-in-Structure c =
+    structure_inside c.args.run.bytes.now c.args.run.sound _ _ (a_structure (goal.at.slice_bounds-bytes-count-in-Structure c).In-Structure)
 
-pub slice_bounds-result-start-in-Structure : goal.slice_bounds-result-start-in-Structure
-slice_bounds-result-start-in-Structure c =
-    let i = structure_inside c.args.run.bytes.now c.args.run.sound _ _ (a_structure (goal.at.slice_bounds-result-start-in-Structure c).In-Structure) in
+pub slice_bounds-bytes-start-in-Structure : goal.slice_bounds-bytes-start-in-Structure
+slice_bounds-bytes-start-in-Structure c =
+    let i = structure_inside c.args.run.bytes.now c.args.run.sound _ _ (a_structure (goal.at.slice_bounds-bytes-start-in-Structure c).In-Structure) in
     omega (arith, i)
 
 pub invariant_of-result-in-Structure : goal.invariant_of-result-in-Structure

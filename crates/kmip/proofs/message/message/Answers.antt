@@ -22,7 +22,8 @@ returns-then-not-header c =
 
 -- the header's row is met
 met : (c : Else-not-header)
-    → ((wants : List Want) → in_order (RequestHeader holds in_order request_header ∷ wants) (items_of c.args.run) ≡ in_order wants (items_of c.in_ok-members.rest))
+    → ((wants : List Want) → in_order (RequestHeader holds in_order request_header ∷ wants) (items_of c.args.run)
+    ≡ in_order wants (items_of c.in_ok-members.rest))
     × (behind_of (from RequestHeader (items_of c.args.run)) ≡ items_of c.in_ok-members.rest)
 met c = (
   structure_met RequestHeader (in_order request_header) (items_of c.args.run) _ _ c.in_ok-members.ensures (sym c.header.ensures ∙ c.if-not-header.false),

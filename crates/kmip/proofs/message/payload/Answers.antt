@@ -1,12 +1,14 @@
 -- `payload` meets its contract.
 -- Assumes nothing.
-use mathlib.Core.Path.{◌≡◌, sym, ap, ◌∙◌}
+use mathlib.Core.Path.{◌≡◌, ap, ◌∙◌}
 use mathlib.Core.List.{List}
 use Prim.Native.Nat.{ℕ}
 use Rattle.rules.specs.Slots.{Contents}
 use Rattle.rules.specs.Ttlv.{Items}
 use Rattle.rules.specs.Kmip.{aes256, payload_good}
+use Rattle.kmip.specs.Reading.{shown}
 use Rattle.kmip.specs.Runs.{items_of}
+use Rattle.kmip.proofs.RowLaws.{given_by}
 use Rattle.kmip.proofs.MessageLaws.{no_uid, no_object, no_attributes, bad_attributes, no_key, bad_key, payload_is, brought_is}
 use Rattle.kmip.proofs.message.payload.Goals as goal
 
@@ -47,16 +49,18 @@ returns-in_err-block c =
     (bad_key s.namespace s.tag (items_of c.args.run) _ _ c.in_ok-uid.ensures.0 _ c.in_ok-rest.ensures _ _ c.in_ok-members.ensures
     c.in_ok-parameters.ensures.0 _ _ c.in_ok-members-2.ensures c.in_err-block.ensures)
 
-pub returns-then-aes : goal.returns-then-aes
-returns-then-aes c =
+pub returns : goal.returns
+returns c =
     let s = c.args.slot in
+    let items = items_of c.args.run in
     let block = c.in_ok-block.ensures in
     let in_block : items_of c.in_ok-block.block ≡ _ = ap (λ (p : Items × List ℕ). p.0) block.1 in
     let the_key : c.in_ok-block.key.now ≡ _ = ap (λ (p : Items × List ℕ). p.1) block.1 in
-    let is = payload_is s.namespace s.tag (items_of c.args.run) _ _ c.in_ok-uid.ensures.0 _ c.in_ok-rest.ensures _ _ c.in_ok-members.ensures
+    let is = payload_is s.namespace s.tag items _ _ c.in_ok-uid.ensures.0 _ c.in_ok-rest.ensures _ _ c.in_ok-members.ensures
     c.in_ok-parameters.ensures.0 _ _ c.in_ok-members-2.ensures block.0 in
-    let brought = brought_is s.namespace s.tag (items_of c.args.run) _ _ c.in_ok-uid.ensures.0 _ c.in_ok-rest.ensures _ _ c.in_ok-members.ensures
+    let brought = brought_is s.namespace s.tag items _ _ c.in_ok-uid.ensures.0 _ c.in_ok-rest.ensures _ _ c.in_ok-members.ensures
     c.in_ok-parameters.ensures.0 _ _ c.in_ok-members-2.ensures block.0 in
-    let found : c.aes.result ≡ payload_good s.namespace s.tag (items_of c.args.run) =
-    c.aes.ensures ∙ ap (λ i. aes256 i (items_of c.in_ok-block.block)) c.in_ok-parameters.ensures.1 ∙ ap (aes256 _) in_block ∙ is in
-    (sym found ∙ c.if-aes.true, ap (λ (k : List ℕ). (let x : Contents = record { uid = c.in_ok-uid.uid.now; key = k } in x)) the_key ∙ brought)
+    rw c.then_some.ensures
+    (given_by shown (record { uid = c.in_ok-uid.uid; key = c.in_ok-block.key }) (payload_good s.namespace s.tag items) c.aes.result
+    (c.aes.ensures ∙ ap (λ i. aes256 i (items_of c.in_ok-block.block)) c.in_ok-parameters.ensures.1 ∙ ap (aes256 _) in_block ∙ is)
+    (ap (λ (k : List ℕ). (let x : Contents = record { uid = c.in_ok-uid.uid.now; key = k } in x)) the_key ∙ brought))

@@ -1,22 +1,21 @@
 -- `header` meets its contract.
 -- Assumes nothing.
-use mathlib.Core.Path.{sym, ◌∙◌}
+use mathlib.Core.Path.{◌≡◌, sym, ◌∙◌}
+use mathlib.Core.Bool.{◌&&◌}
+use borrow.Author.Rules.{rules}
+use borrow.Author.Tests.{tests}
 use Rattle.rules.specs.Ttlv.{Integer}
-use Rattle.rules.specs.Kmip.{in_order, protocol_version, ◌is_a◌with◌, is, BatchCount, ProtocolVersion}
+use Rattle.rules.specs.Kmip.{has, in_order, protocol_version, request_header, ◌is_a◌with◌, is, BatchCount, ProtocolVersion}
 use Rattle.kmip.specs.Runs.{items_of}
-use Rattle.kmip.proofs.RowLaws.{row_alone, structure_missed, structure_met, structure_failed}
+use Rattle.kmip.proofs.RowLaws.{row_alone, structure_missed, structure_row, some_and}
 use Rattle.kmip.proofs.rows.header.Goals as goal
 
-pub returns-then-version : goal.returns-then-version
-returns-then-version c =
-    c.is_some.ensures
-    ∙ row_alone (BatchCount is_a Integer with is 1) (items_of c.in-Some.rest) _ c.numbered.ensures
-    ∙ sym (structure_met ProtocolVersion (in_order protocol_version) (items_of c.args.run) _ _ c.in-Some.ensures (sym c.version.ensures ∙ c.if-version.true) _)
-
-pub returns-else-version : goal.returns-else-version
-returns-else-version c =
-    c.if-version.false
-    ∙ sym (structure_failed ProtocolVersion (in_order protocol_version) (items_of c.args.run) _ _ c.in-Some.ensures (sym c.version.ensures ∙ c.if-version.false) _)
-
-pub returns-in-None : goal.returns-in-None
-returns-in-None c = sym (structure_missed ProtocolVersion (in_order protocol_version) (items_of c.args.run) c.in-None.ensures _)
+pub returns : goal.returns
+returns c =
+    let items = items_of c.args.run in
+    some_and _ _ _ c.structure.result c.is_some_and.result (in_order request_header items) c.is_some_and.ensures c.structure.ensures
+    (λ missed. structure_missed ProtocolVersion (in_order protocol_version) items missed _)
+    (λ p tested found.
+    let told : c.is_some_and.result
+    ≡ in_order protocol_version (items_of p.0) && has (BatchCount is_a Integer with is 1) (items_of p.1) = search (rules, tests, row_alone) in
+    told ∙ sym (structure_row ProtocolVersion (in_order protocol_version) items _ _ found _))
