@@ -1,9 +1,8 @@
 pub mod RunLaws
+pub mod SearchLaws
 pub mod NumberLaws
-pub mod MemberLaws
 pub mod RowLaws
 pub mod AttributesLaws
-pub mod KeysLaws
 pub mod MessageLaws
 pub mod RequestLaws
 pub mod ReadingLaws

@@ -1,166 +1,96 @@
--- A payload, by what was found of its members.
+-- A payload, by what was found of its members one after the other.
 -- Assumes nothing.
 use mathlib.Core.Path.{◌≡◌, refl, sym, ap, ◌∙◌}
-use mathlib.Core.Bool.{Bool, true, false, ◌&&◌, and-true}
+use mathlib.Core.Bool.{Bool, true, false, ◌&&◌}
 use mathlib.Core.List.{List, [], ◌∷◌}
 use Prim.Native.Nat.{ℕ}
-use native.Mathlib.Omega.{arith}
-use Rattle.cells.proofs.PredicatesLaws.{and_left, and_right}
 use Rattle.rules.specs.Slots.{Contents}
-use Rattle.rules.specs.Ttlv.{Items, Structure, Enumeration, Text}
+use Rattle.rules.specs.Ttlv.{Items, value, structure, Enumeration, Text}
 use Rattle.rules.specs.Kmip.{Want, from, behind_of, members_of, bytes_of, in_order, has, ◌is_a◌with◌, ◌holds◌, is, any, value_then, structure_then}
 use Rattle.rules.specs.Kmip.{attributes, key_block, request_payload, aes256, parameters_in, block_in, payload_good, brought_by, a_symmetric_key}
 use Rattle.rules.specs.Kmip.{Attributes, CryptographicParameters, KeyBlock, KeyMaterial, KeyValue, ObjectType, SymmetricKey, UniqueIdentifier}
-use Rattle.kmip.specs.declared.Member.{Member}
-use Rattle.kmip.specs.declared.Step.{Step}
-use Rattle.kmip.specs.declared.Block.{Block}
-use Rattle.kmip.specs.declared.Load.{Load}
-use Rattle.kmip.specs.Runs.{Runs, Sought, Stepped, KeyStands, Brought}
-use Rattle.kmip.proofs.RowLaws.{step_to, row_value, row_structure, last_row, then_rows, hit_value}
-use Rattle.kmip.proofs.KeysLaws.{structure_row, structure_told}
+use Rattle.kmip.proofs.RowLaws.{value_missed, value_met, structure_missed, structure_met, structure_failed, structure_alone}
 
-text : Text ≡ Structure → ⊥
-text e = omega (arith, e)
+module _ (ns tag : ℕ) (items : Items) where
+  abbrev object : Want
+  object = ObjectType is_a Enumeration with is a_symmetric_key
 
--- what the functions that look for a payload's members leave
-module _ (xs : List ℕ) (to ns tag : ℕ) (items : Items) (u a p y : Member) (o : Step) (b : Block) (ae : Bool)
-    (seek-u : Sought xs to Text (from UniqueIdentifier items) u)
-    (seek-o : (rest : Items) → Runs xs u.next to rest
-    → Stepped xs to (from ObjectType rest) (λ more. value_then Enumeration (is a_symmetric_key) more (from ObjectType rest)) o)
-    (seek-a : (rest : Items) → Runs xs o.next to rest → Sought xs to Structure (from Attributes rest) a)
-    (told-p : (members : Items) → Runs xs a.start a.next members
-    → (p.found ≡ attributes ns tag members) × (p.found ≡ true → Runs xs p.start p.next (members_of (from CryptographicParameters members))))
-    (seek-y : (rest : Items) → Runs xs a.next to rest → Sought xs to Structure (from SymmetricKey rest) y)
-    (told-b : (members : Items) → Runs xs y.start y.next members
-    → (b.found ≡ has (KeyBlock holds key_block) members)
-    × (b.found ≡ true → Runs xs b.start b.next (members_of (from KeyBlock members))
-    × KeyStands xs b.key (bytes_of (from KeyMaterial (members_of (from KeyValue (members_of (from KeyBlock members))))))))
-    (told-ae : (parameters block : Items) → Runs xs p.start p.next parameters → Runs xs b.start b.next block
-    → ae ≡ aes256 parameters block) where
-  abbrev f1 : Items
-  f1 = from UniqueIdentifier items
+  abbrev of_slot : Want
+  of_slot = Attributes holds attributes ns tag
 
-  abbrev f2 : Items
-  f2 = from ObjectType (behind_of f1)
+  abbrev good_key : Items → Bool
+  good_key members = has (KeyBlock holds key_block) members
 
-  abbrev f3 : Items
-  f3 = from Attributes (behind_of f2)
+  abbrev key : Want
+  key = SymmetricKey holds has (KeyBlock holds key_block)
 
-  abbrev f4 : Items
-  f4 = from SymmetricKey (behind_of f3)
+  bad : in_order (request_payload ns tag) items ≡ false → payload_good ns tag items ≡ false
+  bad rows = ap (λ b. b && aes256 (parameters_in items) (block_in items)) rows
 
-  row1 : Stepped xs to f1 (λ more. value_then Text any more f1) (step_to u.found u.next)
-  row1 = row_value xs to Text u f1 seek-u text any u.found true (sym (and-true u.found)) (λ h. refl)
+  pub no_uid : ((good : List ℕ → Bool) (more : Items → Bool) → value_then Text good more (from UniqueIdentifier items) ≡ false)
+      → payload_good ns tag items ≡ false
+  no_uid missed = bad (value_missed UniqueIdentifier Text any items missed (object ∷ of_slot ∷ key ∷ []))
 
-  row2 : u.found ≡ true → Stepped xs to f2 (λ more. value_then Enumeration (is a_symmetric_key) more f2) o
-  row2 h = seek-o (behind_of f1) (row1.passes h).1
+  module _ (uid : List ℕ) (rest1 : Items) (e1 : from UniqueIdentifier items ≡ value UniqueIdentifier Text uid rest1) where
+    rows1 : in_order (request_payload ns tag) items ≡ in_order (object ∷ of_slot ∷ key ∷ []) rest1
+    rows1 = (value_met UniqueIdentifier Text any items uid rest1 e1 refl).0 (object ∷ of_slot ∷ key ∷ [])
 
-  sought_a : u.found ≡ true → o.good ≡ true → Sought xs to Structure f3 a
-  sought_a h i = seek-a (behind_of f2) ((row2 h).passes i).1
+    pub no_object : ((wants : List Want) → in_order (object ∷ wants) rest1 ≡ false) → payload_good ns tag items ≡ false
+    no_object missed = bad (rows1 ∙ missed (of_slot ∷ key ∷ []))
 
-  row3 : u.found ≡ true → o.good ≡ true
-      → Stepped xs to f3 (λ more. structure_then (attributes ns tag) more f3) (step_to (a.found && p.found) a.next)
-  row3 h i = row_structure xs to a f3 (sought_a h i) (attributes ns tag) (a.found && p.found) p.found refl (λ k. (told-p k.members k.inner).0)
+    module _ (rest2 : Items)
+        (e2 : ((wants : List Want) → in_order (object ∷ wants) rest1 ≡ in_order wants rest2) × (behind_of (from ObjectType rest1) ≡ rest2)) where
+      rows2 : in_order (request_payload ns tag) items ≡ in_order (of_slot ∷ key ∷ []) rest2
+      rows2 = rows1 ∙ e2.0 (of_slot ∷ key ∷ [])
 
-  sought_y : u.found ≡ true → o.good ≡ true → a.found && p.found ≡ true → Sought xs to Structure f4 y
-  sought_y h i j = seek-y (behind_of f3) ((row3 h i).passes j).1
+      pub no_attributes : ((good more : Items → Bool) → structure_then good more (from Attributes rest2) ≡ false) → payload_good ns tag items ≡ false
+      no_attributes missed = bad (rows2 ∙ structure_missed Attributes (attributes ns tag) rest2 missed (key ∷ []))
 
-  row4 : u.found ≡ true → o.good ≡ true → a.found && p.found ≡ true
-      → Stepped xs to f4 (λ more. structure_then (has (KeyBlock holds key_block)) more f4) (step_to (y.found && b.found) y.next)
-  row4 h i j =
-      row_structure xs to y f4 (sought_y h i j) (has (KeyBlock holds key_block)) (y.found && b.found) b.found refl
-      (λ k. (told-b k.members k.inner).0)
+      module _ (members rest3 : Items) (e3 : from Attributes rest2 ≡ structure Attributes members rest3) where
+        pub bad_attributes : attributes ns tag members ≡ false → payload_good ns tag items ≡ false
+        bad_attributes failed =
+            bad (rows2 ∙ structure_failed Attributes (attributes ns tag) rest2 members rest3 e3 failed (key ∷ []))
 
-  abbrev rows : Bool
-  rows = u.found && (o.good && (a.found && p.found && (y.found && b.found)))
+        module _ (good3 : attributes ns tag members ≡ true) where
+          rows3 : in_order (request_payload ns tag) items ≡ has key rest3
+          rows3 = rows2 ∙ structure_met Attributes (attributes ns tag) rest2 members rest3 e3 good3 (key ∷ [])
 
-  abbrev rest3 : List Want
-  rest3 = SymmetricKey holds has (KeyBlock holds key_block) ∷ []
+          pub no_key : ((good more : Items → Bool) → structure_then good more (from SymmetricKey rest3) ≡ false) → payload_good ns tag items ≡ false
+          no_key missed = bad (rows3 ∙ structure_missed SymmetricKey good_key rest3 missed [])
 
-  abbrev rest2 : List Want
-  rest2 = Attributes holds attributes ns tag ∷ rest3
+          module _ (inner behind : Items) (e4 : from SymmetricKey rest3 ≡ structure SymmetricKey inner behind) where
+            rows4 : in_order (request_payload ns tag) items ≡ has (KeyBlock holds key_block) inner
+            rows4 = rows3 ∙ sym (structure_alone SymmetricKey good_key rest3 inner behind e4)
 
-  abbrev rest1 : List Want
-  rest1 = ObjectType is_a Enumeration with is a_symmetric_key ∷ rest2
+            pub bad_key : has (KeyBlock holds key_block) inner ≡ false → payload_good ns tag items ≡ false
+            bad_key failed = bad (rows4 ∙ failed)
 
-  rows_are : rows ≡ in_order (request_payload ns tag) items
-  unfolding in_order
-  rows_are =
-      then_rows xs to f1 _ _ row1 _ (in_order rest1)
-      (λ h. then_rows xs to f2 _ _ (row2 h) _ (in_order rest2)
-      (λ i. then_rows xs to f3 _ _ (row3 h i) _ (in_order rest3)
-      (λ j. last_row xs to f4 _ _ (row4 h i j) (in_order []) (λ rest. refl))))
+            module _ (good4 : has (KeyBlock holds key_block) inner ≡ true) where
+              abbrev block : Items
+              block = members_of (from KeyBlock inner)
 
-  -- all rows are met
-  module _ (all : rows ≡ true) where
-    h1 : u.found ≡ true
-    h1 = and_left u.found _ all
+              behind_object : behind_of (from ObjectType (behind_of (from UniqueIdentifier items))) ≡ rest2
+              behind_object = ap (λ i. behind_of (from ObjectType (behind_of i))) e1 ∙ e2.1
 
-    h2 : o.good ≡ true
-    h2 = and_left o.good _ (and_right u.found _ all)
+              parameters_are : parameters_in items ≡ members_of (from CryptographicParameters members)
+              parameters_are =
+                  ap (λ i. members_of (from CryptographicParameters (members_of (from Attributes i)))) behind_object
+                  ∙ ap (λ i. members_of (from CryptographicParameters (members_of i))) e3
 
-    h3 : a.found && p.found ≡ true
-    h3 = and_left (a.found && p.found) _ (and_right o.good _ (and_right u.found _ all))
+              block_is : block_in items ≡ block
+              block_is =
+                  ap (λ i. members_of (from KeyBlock (members_of (from SymmetricKey (behind_of (from Attributes i)))))) behind_object
+                  ∙ ap (λ i. members_of (from KeyBlock (members_of (from SymmetricKey (behind_of i))))) e3
+                  ∙ ap (λ i. members_of (from KeyBlock (members_of i))) e4
 
-    h4 : y.found && b.found ≡ true
-    h4 = and_right (a.found && p.found) _ (and_right o.good _ (and_right u.found _ all))
+              pub payload_is : aes256 (members_of (from CryptographicParameters members)) block ≡ payload_good ns tag items
+              payload_is =
+                  sym (ap (λ b. b && aes256 (parameters_in items) (block_in items)) (rows4 ∙ good4)
+                  ∙ ap (λ i. aes256 i (block_in items)) parameters_are
+                  ∙ ap (aes256 (members_of (from CryptographicParameters members))) block_is)
 
-    in_parameters : Runs xs p.start p.next (parameters_in items)
-    in_parameters =
-        (structure_told xs to a f3 (sought_a h1 h2) (attributes ns tag) p.found
-        (λ members. Runs xs p.start p.next (members_of (from CryptographicParameters members))) told-p h3).1
+              abbrev contents : Items → Items → Contents
+              contents first b = record { uid = bytes_of first; key = bytes_of (from KeyMaterial (members_of (from KeyValue b))) }
 
-    in_block : Runs xs b.start b.next (block_in items) × KeyStands xs b.key (bytes_of (from KeyMaterial (members_of (from KeyValue (block_in items)))))
-    in_block =
-        (structure_told xs to y f4 (sought_y h1 h2 h3) (has (KeyBlock holds key_block)) b.found
-        (λ members. Runs xs b.start b.next (members_of (from KeyBlock members))
-        × KeyStands xs b.key (bytes_of (from KeyMaterial (members_of (from KeyValue (members_of (from KeyBlock members))))))) told-b h4).1
-
-    ae_is : ae ≡ aes256 (parameters_in items) (block_in items)
-    ae_is = told-ae (parameters_in items) (block_in items) in_parameters in_block.0
-
-    brought : (r : Load) → r.uid ≡ u.start → r.length ≡ u.length → r.key ≡ b.key → Brought xs r (brought_by items)
-    brought r e f g =
-        let h = hit_value xs to Text u f1 seek-u h1 text in
-        record { whole = rw (e, f) h.whole; uid = rw (e, f) (sym (ap bytes_of h.is)); key = rw g in_block.1 }
-
-  pub payload_is : rows && ae ≡ payload_good ns tag items
-  payload_is = go rows refl
-    where
-      go : (c : Bool) → rows ≡ c → rows && ae ≡ in_order (request_payload ns tag) items && aes256 (parameters_in items) (block_in items)
-      go true e = ap (λ x. rows && x) (ae_is e) ∙ ap (λ x. x && aes256 (parameters_in items) (block_in items)) rows_are
-      go false e =
-          ap (λ x. x && ae) e ∙ sym (ap (λ x. x && aes256 (parameters_in items) (block_in items)) (sym rows_are ∙ e))
-
-  pub payload_brought : (r : Load) → r.uid ≡ u.start → r.length ≡ u.length → r.key ≡ b.key → rows && ae ≡ true
-      → Brought xs r (brought_by items)
-  payload_brought r e f g all = brought (and_left rows ae all) r e f g
-
--- ------------------------------------------------------------------------
--- Two rows: one before, and a structure that brings something
-
-same_places : (xs : List ℕ) (l r : Load) (x : Contents) → r.uid ≡ l.uid → r.length ≡ l.length → r.key ≡ l.key → Brought xs l x
-    → Brought xs r x
-same_places xs l r x e f g h = record { whole = rw (e, f) h.whole; uid = rw (e, f) h.uid; key = rw g h.key }
-
-module _ (xs : List ℕ) (to last : ℕ) (first : Items) (row : (Items → Bool) → Bool) (o : Step) (step : Stepped xs to first row o) (m : Member) (l : Load)
-    (good : Items → Bool) (brings : Items → Contents)
-    (seek : (rest : Items) → Runs xs o.next to rest → Sought xs to Structure (from last rest) m)
-    (told : (members : Items) → Runs xs m.start m.next members
-    → (l.good ≡ good members) × (l.good ≡ true → Brought xs l (brings members))) where
-  sought : o.good ≡ true → Sought xs to Structure (from last (behind_of first)) m
-  sought ok = seek (behind_of first) (step.passes ok).1
-
-  pub two_rows : o.good && (m.found && l.good) ≡ row (in_order (last holds good ∷ []))
-  unfolding in_order
-  two_rows =
-      then_rows xs to first row o step (m.found && l.good) (in_order (last holds good ∷ []))
-      (λ ok. structure_row xs to m (from last (behind_of first)) (sought ok) good l.good (λ members. Brought xs l (brings members)) told)
-
-  pub two_brought : (r : Load) → r.uid ≡ l.uid → r.length ≡ l.length → r.key ≡ l.key → o.good && (m.found && l.good) ≡ true
-      → Brought xs r (brings (members_of (from last (behind_of first))))
-  two_brought r e f g all =
-      let ok = and_left o.good _ all in
-      same_places xs l r _ e f g
-      (structure_told xs to m (from last (behind_of first)) (sought ok) good l.good (λ members. Brought xs l (brings members)) told
-      (and_right o.good _ all)).1
+              pub brought_is : record { uid = uid; key = bytes_of (from KeyMaterial (members_of (from KeyValue block))) } ≡ brought_by items
+              brought_is = sym (ap (λ i. contents i (block_in items)) e1 ∙ ap (contents (value UniqueIdentifier Text uid rest1)) block_is)

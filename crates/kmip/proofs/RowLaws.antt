@@ -1,179 +1,112 @@
--- A wanted member, by what was found: a value, a structure, or no such item.
+-- A row of a table, by the item that was found for it.
 -- Assumes nothing.
 use mathlib.Core.Path.{◌≡◌, refl, sym, ap, ◌∙◌}
-use mathlib.Core.Bool.{Bool, true, false, ◌&&◌, true≢false, or-false}
-use mathlib.Core.List.{List}
-use mathlib.Core.Logic.{◌⊎◌, inl, inr}
-use Prim.Native.Nat.{ℕ, ◌+◌, ◌≤◌}
-use native.Mathlib.Omega.{arith}
-use lib.ListN.{length}
-use lib.Dec.{eqb}
-use borrow.Author.Tests.{eq-eqb, eqb-true}
-use Rattle.cells.specs.Cells.{part}
-use Rattle.cells.proofs.PredicatesLaws.{and_left, and_right}
-use Rattle.rules.specs.Fields.{big_endian}
-use Rattle.rules.specs.Ttlv.{Items, end, value, structure, Structure, Integer, Enumeration, is_value}
-use Rattle.rules.specs.Kmip.{value_then, structure_then, behind_of}
-use Rattle.kmip.specs.declared.Member.{Member}
-use Rattle.kmip.specs.declared.Step.{Step}
-use Rattle.kmip.specs.Runs.{Runs, Sought, Stepped, number_at}
-use Rattle.kmip.proofs.NumberLaws.{number_there}
+use mathlib.Core.Bool.{Bool, true, false, ◌&&◌, and-true}
+use mathlib.Core.List.{List, [], ◌∷◌}
+use Prim.Native.Nat.{ℕ}
+use borrow.Author.Tests.{eq-eqb}
+use Rattle.std.specs.Prelude.{Option, Some, None, MatchOption, is_some}
+use Rattle.std.specs.Bool.{then_some}
+use Rattle.rules.specs.Ttlv.{Items, value, structure}
+use Rattle.rules.specs.Kmip.{Want, ◌is_a◌with◌, ◌holds◌, from, behind_of, members_of, value_then, structure_then, in_order, has, any}
+use Rattle.kmip.specs.declared.run.Run.{Run}
+use Rattle.kmip.specs.Runs.{items_of, FoundNumber, tag_of, Row, GivesIf}
 
--- a value that was found
-pub record HitValue (xs : List ℕ) (to kind : ℕ) (items : Items) (m : Member) : Type 0 where
-  pub tag : ℕ
-  pub behind : Items
-  pub is : items ≡ value tag kind (part m.start m.length xs) behind
-  pub typed : is_value kind m.length ≡ true
-  pub whole : m.start + m.length ≤ length xs
-  pub on : Runs xs m.next to behind
+none_left : (items : Items) → in_order [] items ≡ true
+unfolding in_order
+none_left items = refl
 
--- a structure that was found
-pub record HitStructure (xs : List ℕ) (to : ℕ) (items : Items) (m : Member) : Type 0 where
-  pub tag : ℕ
-  pub members : Items
-  pub behind : Items
-  pub is : items ≡ structure tag members behind
-  pub inner : Runs xs m.start m.next members
-  pub on : Runs xs m.next to behind
+module _ (tag kind : ℕ) (good : List ℕ → Bool) (items : Items) where
+  pub value_missed : ((g : List ℕ → Bool) (more : Items → Bool) → value_then kind g more (from tag items) ≡ false)
+      → (wants : List Want) → in_order ((tag is_a kind with good) ∷ wants) items ≡ false
+  unfolding in_order
+  value_missed missed wants = missed good (in_order wants)
 
-no_structure : (n : ℕ) → is_value Structure n ≡ false
-unfolding is_value
-no_structure n = refl
+  module _ (bytes : List ℕ) (behind : Items) (is : from tag items ≡ value tag kind bytes behind) where
+    value_row : (wants : List Want) → in_order ((tag is_a kind with good) ∷ wants) items ≡ good bytes && in_order wants behind
+    unfolding in_order value_then
+    value_row wants = ap (value_then kind good (in_order wants)) is ∙ rw (eq-eqb kind kind refl)
 
-module _ (xs : List ℕ) (to kind : ℕ) (m : Member) where
-  pub hit_value : (items : Items) → Sought xs to kind items m → m.found ≡ true → (kind ≡ Structure → ⊥) → HitValue xs to kind items m
-  hit_value end s hit other = absurd (true≢false (sym hit ∙ s))
-  hit_value (value t k v behind) s hit other =
-      let h = s.2 hit in
-      let same : k ≡ kind = eqb-true k kind (sym s.1 ∙ hit) in
-      record {
-        tag = t;
-        behind = behind;
-        is = ap (λ j. value t j v behind) same ∙ ap (λ w. value t kind w behind) (sym h.0);
-        typed = ap (λ n. is_value kind n) h.1 ∙ ap (λ j. is_value j (length v)) (sym same) ∙ s.0;
-        whole = h.2;
-        on = h.3;
-      }
-  hit_value (structure t members behind) s hit other = absurd (other (sym (eqb-true Structure kind (sym s.0 ∙ hit))))
+    pub value_met : good bytes ≡ true
+        → ((wants : List Want) → in_order ((tag is_a kind with good) ∷ wants) items ≡ in_order wants behind) × (behind_of (from tag items) ≡ behind)
+    value_met met = (λ wants. value_row wants ∙ ap (λ b. b && in_order wants behind) met, ap behind_of is)
 
-  pub miss_value : (items : Items) → Sought xs to kind items m → m.found ≡ false
-      → (good : List ℕ → Bool) (more : Items → Bool) → value_then kind good more items ≡ false
-  unfolding value_then
-  miss_value end s absent good more = refl
-  miss_value (value t k v behind) s absent good more = ap (λ b. b && good v && more behind) (sym s.1 ∙ absent)
-  miss_value (structure t members behind) s absent good more = refl
+    pub value_failed : good bytes ≡ false → (wants : List Want) → in_order ((tag is_a kind with good) ∷ wants) items ≡ false
+    value_failed failed wants = value_row wants ∙ ap (λ b. b && in_order wants behind) failed
 
-module _ (xs : List ℕ) (to : ℕ) (m : Member) where
-  pub hit_structure : (items : Items) → Sought xs to Structure items m → m.found ≡ true → HitStructure xs to items m
-  hit_structure end s hit = absurd (true≢false (sym hit ∙ s))
-  hit_structure (value t k v behind) s hit =
-      let same : k ≡ Structure = eqb-true k Structure (sym s.1 ∙ hit) in
-      absurd (true≢false (sym s.0 ∙ ap (λ j. is_value j (length v)) same ∙ no_structure (length v)))
-  hit_structure (structure t members behind) s hit =
-      let h = s.1 hit in
-      record { tag = t; members = members; behind = behind; is = refl; inner = h.0; on = h.1 }
+    pub value_row_by : (b : Bool) → good bytes ≡ b → (run : Run) → items_of run ≡ behind → Row (tag is_a kind with good) items (then_some b run)
+    value_row_by true met run e = let m = value_met met in (λ wants. m.0 wants ∙ ap (in_order wants) (sym e), m.1 ∙ sym e)
+    value_row_by false failed run e = value_failed failed
 
-  pub miss_structure : (items : Items) → Sought xs to Structure items m → m.found ≡ false
-      → (good more : Items → Bool) → structure_then good more items ≡ false
-  unfolding structure_then
-  miss_structure end s absent good more = refl
-  miss_structure (value t k v behind) s absent good more = refl
-  miss_structure (structure t members behind) s absent good more = absurd (true≢false (sym s.0 ∙ absent))
+    pub value_alone : good bytes ≡ has (tag is_a kind with good) items
+    value_alone = sym (value_row [] ∙ ap (λ b. good bytes && b) (none_left behind) ∙ and-true (good bytes))
+
+module _ (tag : ℕ) (good : Items → Bool) (items : Items) where
+  pub structure_missed : ((g more : Items → Bool) → structure_then g more (from tag items) ≡ false)
+      → (wants : List Want) → in_order ((tag holds good) ∷ wants) items ≡ false
+  unfolding in_order
+  structure_missed missed wants = missed good (in_order wants)
+
+  module _ (members behind : Items) (is : from tag items ≡ structure tag members behind) where
+    pub structure_row : (wants : List Want) → in_order ((tag holds good) ∷ wants) items ≡ good members && in_order wants behind
+    unfolding in_order structure_then
+    structure_row wants = ap (structure_then good (in_order wants)) is
+
+    pub structure_met : good members ≡ true → (wants : List Want) → in_order ((tag holds good) ∷ wants) items ≡ in_order wants behind
+    structure_met met wants = structure_row wants ∙ ap (λ b. b && in_order wants behind) met
+
+    pub structure_failed : good members ≡ false → (wants : List Want) → in_order ((tag holds good) ∷ wants) items ≡ false
+    structure_failed failed wants = structure_row wants ∙ ap (λ b. b && in_order wants behind) failed
+
+    pub structure_alone : good members ≡ has (tag holds good) items
+    structure_alone = sym (structure_row [] ∙ ap (λ b. good members && b) (none_left behind) ∙ and-true (good members))
+
+-- a row by itself
+pub row_alone : (want : Want) (items : Items) (r : Option Run) → Row want items r → is_some r ≡ has want items
+row_alone want items None told = sym (told [])
+row_alone want items (Some behind) told = sym (told.0 [] ∙ none_left (items_of behind))
+
+pub number_alone : (tag kind : ℕ) (items : Items) (r : Option (ℕ × Run)) → FoundNumber tag kind items r
+    → is_some r ≡ has (tag is_a kind with any) items
+number_alone tag kind items None told = sym (value_missed tag kind any items told [])
+number_alone tag kind items (Some p) told = value_alone tag kind any items told.0 (items_of p.1) told.1
 
 -- ------------------------------------------------------------------------
--- Rows: what was found, and a test of it
+-- Something that is there where all is good
 
-abbrev pub step_to : Bool → ℕ → Step
-step_to good next = record { good = good; next = next }
+-- a test of what was found, where something was
+pub some_and : {A : Type 0} (P : Type 0) (Q R : A → Type 0) (o : Option A) (r b : Bool) → MatchOption o (r ≡ false) R → MatchOption o P Q
+    → (P → b ≡ false) → ((x : A) → R x → Q x → r ≡ b) → r ≡ b
+some_and P Q R None r b tested found none some = tested ∙ sym (none found)
+some_and P Q R (Some x) r b tested found none some = some x tested found
 
-by_bool : (b : Bool) {T : Type 0} → (b ≡ true → T) → (b ≡ false → T) → T
-by_bool true t f = t refl
-by_bool false t f = f refl
+pub gives_as : {A B : Type 0} {good other : Bool} {x y : B} (shown : A → B) (r : Option A) → good ≡ other → x ≡ y
+    → GivesIf good shown x r → GivesIf other shown y r
+gives_as shown None e f told = sym e ∙ told
+gives_as shown (Some a) e f told = (sym e ∙ told.0, told.1 ∙ f)
 
-module _ (xs : List ℕ) (to kind : ℕ) (m : Member) (items : Items) (s : Sought xs to kind items m) (valued : kind ≡ Structure → ⊥)
-    (good : List ℕ → Bool) (b g : Bool) (is : b ≡ m.found && g)
-    (tested : HitValue xs to kind items m → g ≡ good (part m.start m.length xs)) where
-  then_value : (h : HitValue xs to kind items m) (more : Items → Bool) → value_then kind good more items ≡ g && more h.behind
-  unfolding value_then
-  then_value h more =
-      ap (value_then kind good more) h.is
-      ∙ ap (λ c. c && good (part m.start m.length xs) && more h.behind) (eq-eqb kind kind refl)
-      ∙ ap (λ c. c && more h.behind) (sym (tested h))
+pub given_by : {A B : Type 0} (shown : A → B) (a : A) {x : B} (good b : Bool) → b ≡ good → shown a ≡ x → GivesIf good shown x (then_some b a)
+given_by shown a good true e f = (sym e, f)
+given_by shown a good false e f = sym e
 
-  pub row_value : Stepped xs to items (λ more. value_then kind good more items) (step_to b m.next)
-  row_value = record {
-    fails = λ bad more.
-        by_bool m.found
-        (λ found.
-        let h = hit_value xs to kind m items s found valued in
-        then_value h more ∙ ap (λ c. c && more h.behind) (sym (ap (λ c. c && g) found) ∙ sym is ∙ bad))
-        (λ absent. miss_value xs to kind m items s absent good more);
-    passes = λ ok.
-        let both : m.found && g ≡ true = sym is ∙ ok in
-        let h = hit_value xs to kind m items s (and_left m.found g both) valued in
-        let e : h.behind ≡ behind_of items = sym (ap behind_of h.is) in
-        (λ more. then_value h more ∙ ap (λ c. c && more h.behind) (and_right m.found g both) ∙ ap more e, rw e at h.on);
-  }
+-- the members of a structure give it
+module _ (tag : ℕ) (good : Items → Bool) (items : Items) {A B : Type 0} (shown : A → B) (of : Items → B) where
+  pub structure_gives : (members behind : Items) → from tag items ≡ structure tag members behind
+      → (r : Option A) → GivesIf (good members) shown (of members) r → GivesIf (has (tag holds good) items) shown (of (members_of (from tag items))) r
+  structure_gives members behind is r =
+      gives_as shown r (structure_alone tag good items members behind is) (ap (λ i. of (members_of i)) (sym is))
 
-module _ (xs : List ℕ) (to : ℕ) (m : Member) (items : Items) (s : Sought xs to Structure items m)
-    (good : Items → Bool) (b g : Bool) (is : b ≡ m.found && g) (tested : (h : HitStructure xs to items m) → g ≡ good h.members) where
-  then_structure : (h : HitStructure xs to items m) (more : Items → Bool) → structure_then good more items ≡ g && more h.behind
-  unfolding structure_then
-  then_structure h more = ap (structure_then good more) h.is ∙ ap (λ c. c && more h.behind) (sym (tested h))
+-- a structure behind a row that was met gives it
+module _ (first : Want) (items rest : Items)
+    (met : ((wants : List Want) → in_order (first ∷ wants) items ≡ in_order wants rest) × (behind_of (from (tag_of first) items) ≡ rest))
+    (tag : ℕ) (good : Items → Bool) where
+  pub last_missed : ((g more : Items → Bool) → structure_then g more (from tag rest) ≡ false)
+      → in_order (first ∷ (tag holds good) ∷ []) items ≡ false
+  last_missed missed = met.0 ((tag holds good) ∷ []) ∙ structure_missed tag good rest missed []
 
-  pub row_structure : Stepped xs to items (λ more. structure_then good more items) (step_to b m.next)
-  row_structure = record {
-    fails = λ bad more.
-        by_bool m.found
-        (λ found.
-        let h = hit_structure xs to m items s found in
-        then_structure h more ∙ ap (λ c. c && more h.behind) (sym (ap (λ c. c && g) found) ∙ sym is ∙ bad))
-        (λ absent. miss_structure xs to m items s absent good more);
-    passes = λ ok.
-        let both : m.found && g ≡ true = sym is ∙ ok in
-        let h = hit_structure xs to m items s (and_left m.found g both) in
-        let e : h.behind ≡ behind_of items = sym (ap behind_of h.is) in
-        (λ more. then_structure h more ∙ ap (λ c. c && more h.behind) (and_right m.found g both) ∙ ap more e, rw e at h.on);
-  }
-
--- the last row of a table, and one before others
-module _ (xs : List ℕ) (to : ℕ) (first : Items) (row : (Items → Bool) → Bool) (r : Step) (s : Stepped xs to first row r) where
-  pub last_row : (more : Items → Bool) → ((items : Items) → more items ≡ true) → r.good ≡ row more
-  last_row more all =
-      by_bool r.good
-      (λ ok. ok ∙ sym ((s.passes ok).0 more ∙ all (behind_of first)))
-      (λ bad. bad ∙ sym (s.fails bad more))
-
-  pub then_rows : (rest : Bool) (more : Items → Bool) → (r.good ≡ true → rest ≡ more (behind_of first)) → r.good && rest ≡ row more
-  then_rows rest more on =
-      by_bool r.good
-      (λ ok. ap (λ b. b && rest) ok ∙ on ok ∙ sym ((s.passes ok).0 more))
-      (λ bad. ap (λ b. b && rest) bad ∙ sym (s.fails bad more))
-
--- ------------------------------------------------------------------------
--- Numbers
-
-four_long : (n : ℕ) → is_value Integer n ≡ true → n ≡ 4
-unfolding is_value
-four_long n h = eqb-true n 4 (sym (or-false (eqb n 4)) ∙ h)
-
-four_long_too : (n : ℕ) → is_value Enumeration n ≡ true → n ≡ 4
-unfolding is_value
-four_long_too n h = eqb-true n 4 (sym (or-false (eqb n 4)) ∙ h)
-
-pub not_structure : (kind : ℕ) → (kind ≡ Integer) ⊎ (kind ≡ Enumeration) → kind ≡ Structure → ⊥
-not_structure kind (inl i) s = omega (arith, i, s)
-not_structure kind (inr e) s = omega (arith, e, s)
-
-long : (kind n : ℕ) → (kind ≡ Integer) ⊎ (kind ≡ Enumeration) → is_value kind n ≡ true → n ≡ 4
-long kind n (inl i) h = four_long n (sym (ap (λ k. is_value k n) i) ∙ h)
-long kind n (inr e) h = four_long_too n (sym (ap (λ k. is_value k n) e) ∙ h)
-
--- the number in a member that was found
-pub number_hit : (xs : List ℕ) (to kind : ℕ) (items : Items) (m : Member) → (kind ≡ Integer) ⊎ (kind ≡ Enumeration) → HitValue xs to kind items m
-    → number_at xs m.start m.length ≡ big_endian (part m.start m.length xs)
-number_hit xs to kind items m number h =
-    let l = long kind m.length number h.typed in
-    let w = h.whole in
-    number_there xs m.start m.length l (omega arith) ∙ ap (λ n. big_endian (part m.start n xs)) (sym l)
+  pub last_gives : {A B : Type 0} (shown : A → B) (of : Items → B) (members behind : Items) → from tag rest ≡ structure tag members behind
+      → (r : Option A) → GivesIf (good members) shown (of members) r
+      → GivesIf (in_order (first ∷ (tag holds good) ∷ []) items) shown (of (members_of (from tag (behind_of (from (tag_of first) items))))) r
+  last_gives shown of members behind is r =
+      gives_as shown r (structure_alone tag good rest members behind is ∙ sym (met.0 ((tag holds good) ∷ [])))
+      (ap of (sym (ap (λ i. members_of (from tag i)) met.1 ∙ ap members_of is)))

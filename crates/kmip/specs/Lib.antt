@@ -1,5 +1,4 @@
 pub mod Runs
-pub mod Attributing
 pub mod Reading
 pub mod Pieces
 pub mod Writing

@@ -1,17 +1,17 @@
 -- What reading a message leaves: the KeyUID and the key at the front of the output,
 -- or one of three refusals and the output as it was.
 -- Assumes nothing.
-use Rattle.std.specs.Prelude.{◌≡◌, true, false, cond, List, ◌++◌, ℕ, ◌+◌, length, drop, ltb}
+use Rattle.std.specs.Prelude.{cond, List, ◌++◌, ℕ, ◌+◌, length, drop, ltb, Result, Ok, Err}
+use Rattle.std.specs.Prelude.{Some, None}
+use Rattle.std.specs.Prelude as std
 use Rattle.std.proofs.Math.Option.{Option, none, some}
 use Rattle.rules.specs.Numbers.{uid_most, key_size}
 use Rattle.rules.specs.Slots.{Contents}
 use Rattle.rules.specs.Frames.{bad_uid_length}
 use Rattle.rules.specs.Kmip.{load_of}
-use Rattle.kmip.specs.declared.Load.{Load}
+use Rattle.kmip.specs.declared.message.Load.{Load}
 use Rattle.kmip.specs.declared.ReadError.{ReadError}
 use Rattle.kmip.specs.declared.ReadError.TheVariants.{NoRoom, NoLoad, BadKeyUid}
-use Rattle.std.specs.Prelude.{Result, Ok, Err}
-use Rattle.kmip.specs.Runs.{Brought}
 
 pub record Told : Type 0 where
   pub result : Result ℕ ReadError
@@ -29,7 +29,10 @@ unfoldable pub read_message : ℕ → ℕ → List ℕ → List ℕ → Told
 read_message ns tag message out =
     cond (ltb (length out) (uid_most + key_size)) (record { result = Err NoRoom; out = out }) (told (load_of ns tag message) out)
 
--- a whole message was read: it brings nothing, or what stands where it was found
-pub record Requested (xs : List ℕ) (ns tag : ℕ) (r : Load) : Type 0 where
-  pub fails : r.good ≡ false → load_of ns tag xs ≡ none
-  pub passes : r.good ≡ true → (x : Contents) × (load_of ns tag xs ≡ some x) × Brought xs r x
+-- what a function found to be brought
+abbrev pub shown : Load → Contents
+shown l = record { uid = l.uid.now; key = l.key.now }
+
+abbrev pub loaded : std.Option Load → Option Contents
+loaded None = none
+loaded (Some l) = some (shown l)

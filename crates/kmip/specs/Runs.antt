@@ -1,59 +1,84 @@
--- A run of bytes that is items, and a member that was looked for in one.
+-- The items that a run of bytes is, and what the functions that look for one of
+-- them leave.
 -- Assumes nothing.
-use Rattle.std.specs.Prelude.{◌≡◌, Bool, true, false, ◌&&◌, cond, List, ℕ, ◌+◌, ◌-◌, ◌≤◌, length, eqb, leb}
-use Rattle.std.proofs.Math.Option.{some}
-use Rattle.cells.specs.Cells.{part}
-use Rattle.cells.specs.Predicates.{same_part}
-use Rattle.rules.specs.Numbers.{key_size}
+use Rattle.std.specs.Prelude.{◌≡◌, Bool, true, false, List, ◌∷◌, ℕ, ◌<◌, length, Option, MatchOption}
+use Rattle.std.proofs.Math.Option as math
+use Rattle.std.specs.Borrow.{Bor}
 use Rattle.rules.specs.Fields.{big_endian}
-use Rattle.rules.specs.Ttlv.{Items, end, value, structure, Structure, is_value, read_at}
-use Rattle.rules.specs.Slots.{Contents}
-use Rattle.rules.specs.Kmip.{from, behind_of, members_of, Operation, RequestPayload}
-use Rattle.kmip.specs.declared.Member.{Member}
-use Rattle.kmip.specs.declared.Step.{Step}
-use Rattle.kmip.specs.declared.Load.{Load}
+use Rattle.rules.specs.Ttlv as ttlv
+use Rattle.rules.specs.Ttlv.{Items, end, value, structure, is_value, read_items}
+use Rattle.rules.specs.Kmip.{Want, ◌is_a◌with◌, ◌holds◌, from, behind_of, members_of, value_then, structure_then, in_order, Operation, RequestPayload}
+use Rattle.kmip.specs.declared.run.Run.{Run}
+use Rattle.kmip.specs.declared.members.Body.{Body}
+use Rattle.kmip.specs.declared.members.Body.TheVariants.{Value, Structure}
+use Rattle.kmip.specs.declared.members.Item.{Item}
+use Rattle.kmip.specs.declared.rows.NumberType.{NumberType}
+use Rattle.kmip.specs.declared.rows.NumberType.TheVariants.{Integer, Enumeration}
 
--- the bytes from `at` up to `end` are these items, at some depth
-pub record Runs (xs : List ℕ) (at to : ℕ) (items : Items) : Type 0 where
-  pub depth : ℕ
-  pub ordered : at ≤ to
-  pub within : to ≤ length xs
-  pub reads : read_at depth (part at (to - at) xs) ≡ some items
+abbrev pub or_end : math.Option Items → Items
+or_end math.none = end
+or_end (math.some items) = items
 
--- the first of these items was looked for as a member of this type: where its value or its members stand, and what is behind it
-abbrev pub Sought : List ℕ → ℕ → ℕ → Items → Member → Type 0
-Sought xs to kind end r = r.found ≡ false
-Sought xs to kind (value t k v behind) r =
-    (is_value k (length v) ≡ true) × (r.found ≡ eqb k kind)
-    × (r.found ≡ true
-    → (part r.start r.length xs ≡ v) × (r.length ≡ length v) × (r.start + r.length ≤ length xs) × Runs xs r.next to behind)
-Sought xs to kind (structure t members behind) r =
-    (r.found ≡ eqb Structure kind) × (r.found ≡ true → Runs xs r.start r.next members × Runs xs r.next to behind)
+-- the items that some bytes are
+unfoldable pub items_in : List ℕ → Items
+items_in xs = or_end (read_items xs)
 
--- a row of a table, as a test of what is behind its item: it fails whatever is behind, or what is behind decides, which is the run from
--- `next` on
-pub record Stepped (xs : List ℕ) (to : ℕ) (first : Items) (row : (Items → Bool) → Bool) (r : Step) : Type 0 where
-  pub fails : r.good ≡ false → (more : Items → Bool) → row more ≡ false
-  pub passes : r.good ≡ true → ((more : Items → Bool) → row more ≡ more (behind_of first)) × Runs xs r.next to (behind_of first)
+abbrev pub items_of : Run → Items
+items_of run = items_in run.bytes.now
 
--- four bytes that are there, as a number
-unfoldable pub number_at : List ℕ → ℕ → ℕ → ℕ
-number_at xs start n = cond (eqb n 4 && leb (start + 4) (length xs)) (big_endian (part start 4 xs)) 0
+-- an item in front of others
+abbrev pub with_body : ℕ → Body → Items → Items
+with_body tag (Value kind bytes) behind = value tag kind bytes.now behind
+with_body tag (Structure run) behind = structure tag (items_of run) behind
 
--- these bytes stand there
-abbrev pub stands_at : List ℕ → ℕ → ℕ → List ℕ → Bool
-stands_at xs start n text = same_part start n xs text
+abbrev pub Typed : Body → Type 0
+Typed (Value kind bytes) = is_value kind (length bytes.now) ≡ true
+Typed (Structure run) = Unit {0}
 
--- this key stands there
-pub record KeyStands (xs : List ℕ) (at : ℕ) (key : List ℕ) : Type 0 where
-  pub whole : at + key_size ≤ length xs
-  pub is : part at key_size xs ≡ key
+-- this item stands at the front of a run, and this run behind it
+pub record First (run : Run) (item : Item) (behind : Run) : Type 0 where
+  pub is : items_of run ≡ with_body item.tag item.body (items_of behind)
+  pub typed : Typed item.body
+  pub shorter : length behind.bytes.now < length run.bytes.now
 
--- this KeyUID and this key stand where they were found
-pub record Brought (xs : List ℕ) (r : Load) (x : Contents) : Type 0 where
-  pub whole : r.uid + r.length ≤ length xs
-  pub uid : part r.uid r.length xs ≡ x.uid
-  pub key : KeyStands xs r.key x.key
+-- the first of these items with a tag was looked for; as a value of a type; as a number; as a structure
+abbrev pub Found : ℕ → Items → Option (Body × Run) → Type 0
+Found tag items r =
+    MatchOption r (from tag items ≡ end) (λ p. (from tag items ≡ with_body tag p.0 (items_of p.1)) × Typed p.0)
+
+abbrev pub FoundValue : ℕ → ℕ → Items → Option (Bor (List ℕ) × Run) → Type 0
+FoundValue tag kind items r =
+    MatchOption r ((good : List ℕ → Bool) (more : Items → Bool) → value_then kind good more (from tag items) ≡ false)
+    (λ p. (from tag items ≡ value tag kind p.0.now (items_of p.1)) × (is_value kind (length p.0.now) ≡ true))
+
+abbrev pub type_of : NumberType → ℕ
+type_of Integer = ttlv.Integer
+type_of Enumeration = ttlv.Enumeration
+
+abbrev pub FoundNumber : ℕ → ℕ → Items → Option (ℕ × Run) → Type 0
+FoundNumber tag kind items r =
+    MatchOption r ((good : List ℕ → Bool) (more : Items → Bool) → value_then kind good more (from tag items) ≡ false)
+    (λ p. (bytes : List ℕ) × (from tag items ≡ value tag kind bytes (items_of p.1)) × (p.0 ≡ big_endian bytes))
+
+abbrev pub FoundStructure : ℕ → Items → Option (Run × Run) → Type 0
+FoundStructure tag items r =
+    MatchOption r ((good more : Items → Bool) → structure_then good more (from tag items) ≡ false)
+    (λ p. from tag items ≡ structure tag (items_of p.0) (items_of p.1))
+
+abbrev pub tag_of : Want → ℕ
+tag_of (tag is_a type with good) = tag
+tag_of (tag holds good) = tag
+
+-- a row of a table was looked for: the table fails, or the run behind the row's item decides
+abbrev pub Row : Want → Items → Option Run → Type 0
+Row want items r =
+    MatchOption r ((wants : List Want) → in_order (want ∷ wants) items ≡ false)
+    (λ behind. ((wants : List Want) → in_order (want ∷ wants) items ≡ in_order wants (items_of behind))
+    × (behind_of (from (tag_of want) items) ≡ items_of behind))
+
+-- something was looked for that is there where all is good; this is shown of it then
+abbrev pub GivesIf : {A B : Type 0} → Bool → (A → B) → B → Option A → Type 0
+GivesIf good shown x r = MatchOption r (good ≡ false) (λ a. (good ≡ true) × (shown a ≡ x))
 
 -- the payload of a batch item
 abbrev pub payload_of : Items → Items

@@ -3,7 +3,7 @@
 -- then 07 18 for an empty or too long KeyUID. Nothing is written then. Else just
 -- the message, and the output behind it stays.
 -- Assumes nothing.
-use Rattle.std.specs.Prelude.{◌≡◌, not, cond, List, ◌++◌, ℕ, ◌^◌, ◌<◌, length, take, drop, eqb, ltb}
+use Rattle.std.specs.Prelude.{◌≡◌, not, cond, List, ◌++◌, ℕ, ◌^◌, ◌<◌, length, take, drop, eqb, ltb, Result, Ok, Err}
 use Rattle.std.proofs.Math.Option.{some}
 use Rattle.rules.specs.Numbers.{key_size}
 use Rattle.rules.specs.Frames.{bad_uid_length}
@@ -12,7 +12,6 @@ use Rattle.rules.specs.Kmip.{load_of}
 use Rattle.rules.specs.KmipMessage.{message_of}
 use Rattle.kmip.specs.declared.WriteError.{WriteError}
 use Rattle.kmip.specs.declared.WriteError.TheVariants.{NoRoom, NoKey, BadKeyUid}
-use Rattle.std.specs.Prelude.{Result, Ok, Err}
 
 abbrev pub message_room : ℕ
 message_room = 408

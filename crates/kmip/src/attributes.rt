@@ -1,14 +1,14 @@
 // Attributes: in any order. Every Attribute is the vendor's; the first named NamespaceID and the first named KeyTag have to be the slot's.
-ghost use Rattle.std.specs.Prelude.{◌≡◌, true, false};
-ghost use Rattle.rules.specs.Ttlv.{Items, Integer, Enumeration};
-ghost use Rattle.rules.specs.Kmip.{from, has, members_of, ◌is_a◌with◌, ◌holds◌, is, vendored as isVendored, attributes as attributesGood};
-ghost use Rattle.rules.specs.Kmip.{AttributeValue, CryptographicParameters, KeyRoleType, DEK};
-ghost use Rattle.kmip.specs.Runs.{Runs};
-ghost use Rattle.kmip.specs.Attributing.{is_namespace, is_tag, attributed, others_good};
+ghost use Rattle.std.specs.Prelude.{◌≡◌, MatchOption};
+ghost use Rattle.rules.specs.Ttlv.{Integer, Enumeration, end};
+ghost use Rattle.rules.specs.Kmip.{from, has, members_of, ◌is_a◌with◌, ◌holds◌, is, vendored as isVendored, each_vendored as eachIsVendored};
+ghost use Rattle.rules.specs.Kmip.{named as firstNamed, attributes as attributesGood, AttributeValue, CryptographicParameters, KeyRoleType, DEK};
+ghost use Rattle.kmip.specs.Runs.{items_of, GivesIf};
 
-use crate::members::{ENUMERATION, INTEGER, STRUCTURE, TEXT, absent, member, reads};
-use crate::rows::{numbered, worded};
-use crate::{Member, Seen};
+use crate::Slot;
+use crate::members::{Body, Item, TEXT, structure, value};
+use crate::rows::{NumberType, numbered, worded};
+use crate::run::Run;
 
 const ATTRIBUTE: u32 = 0x420008;
 
@@ -24,116 +24,64 @@ const VENDOR_IDENTIFICATION: u32 = 0x42009D;
 
 const ROLE_DEK: usize = 0x03;
 
-// Key Role Type DEK.
-fn role(bytes: &[u8], start: usize, end: usize) -> bool
-    ensures { (items : Items) → Runs bytes.now start end items → result ≡ has (KeyRoleType is_a Enumeration with is DEK) items }
-{
-    let step = numbered(bytes, start, end, KEY_ROLE_TYPE, ENUMERATION, ROLE_DEK);
-    step.good
-}
-
 // Vendor Identification TCG-SWG, and an Attribute Name other than UID.
-fn vendored(bytes: &[u8], start: usize, end: usize) -> bool
-    ensures { (items : Items) → Runs bytes.now start end items → result ≡ isVendored items }
+fn vendored(attribute: Run<'_>) -> bool
+    ensures { result ≡ isVendored (items_of attribute.entry) }
 {
-    let vendor = [0x54u8, 0x43, 0x47, 0x2D, 0x53, 0x57, 0x47];
-    let uid = [0x55u8, 0x49, 0x44];
-    let known = worded(bytes, start, end, VENDOR_IDENTIFICATION, &vendor);
-    let name = member(bytes, start, end, ATTRIBUTE_NAME, TEXT);
-    known & (name.found & !reads(bytes, name, &uid))
+    worded(attribute, VENDOR_IDENTIFICATION, b"TCG-SWG")
+        && value(attribute, ATTRIBUTE_NAME, TEXT).is_some_and(|(name, _)| name != b"UID".as_slice())
 }
 
-// An Attribute Value that is this number.
-fn valued(bytes: &[u8], start: usize, end: usize, n: usize) -> bool
-    ensures { (items : Items) → Runs bytes.now start end items → result ≡ has (AttributeValue is_a Integer with is n) items }
+// Whether every Attribute is so.
+fn each_vendored(mut run: Run<'_>) -> bool
+    ensures { result ≡ eachIsVendored (items_of run.entry) }
 {
-    let step = numbered(bytes, start, end, ATTRIBUTE_VALUE, INTEGER, n);
-    step.good
+    run.all(|item| {
+        item.tag != ATTRIBUTE
+            || matches!(item.body, Body::Structure(attribute) if vendored(attribute))
+    })
 }
 
-fn named_namespace(bytes: &[u8], start: usize, end: usize) -> bool
-    ensures { (items : Items) → Runs bytes.now start end items → result ≡ is_namespace items }
+// The first Attribute of this name.
+fn named<'a>(mut run: Run<'a>, name: &[u8]) -> Option<Run<'a>>
+    ensures { let members = firstNamed name.now (items_of run.entry) in
+        MatchOption result (members ≡ end) (λ attribute. members ≡ items_of attribute) }
 {
-    let text = [
-        0x4Eu8, 0x61, 0x6D, 0x65, 0x73, 0x70, 0x61, 0x63, 0x65, 0x49, 0x44,
-    ];
-    worded(bytes, start, end, ATTRIBUTE_NAME, &text)
+    run.find_map(|item| match item.body {
+        Body::Structure(attribute)
+            if item.tag == ATTRIBUTE && worded(attribute, ATTRIBUTE_NAME, name) => Some(attribute),
+        _ => None,
+    })
 }
 
-fn named_tag(bytes: &[u8], start: usize, end: usize) -> bool
-    ensures { (items : Items) → Runs bytes.now start end items → result ≡ is_tag items }
+// Whether the first Attribute of this name has this number as its value.
+fn valued(run: Run<'_>, name: &[u8], n: usize) -> bool
+    ensures { result ≡ has (AttributeValue is_a Integer with is n) (firstNamed name.now (items_of run.entry)) }
 {
-    let text = [0x4Bu8, 0x65, 0x79, 0x54, 0x61, 0x67];
-    worded(bytes, start, end, ATTRIBUTE_NAME, &text)
+    named(run, name).is_some_and(|attribute| {
+        numbered(attribute, ATTRIBUTE_VALUE, NumberType::Integer, n).is_some()
+    })
 }
 
-// One Attribute, with what was seen before it.
-fn attribute(bytes: &[u8], start: usize, end: usize, ns: usize, tag: usize, seen: Seen) -> Seen
-    ensures { (items : Items) → Runs bytes.now start end items → result ≡ attributed ns tag seen items }
+// The members of Cryptographic Parameters with the role of a media key.
+fn parameters(run: Run<'_>) -> Option<Run<'_>>
+    ensures { let items = items_of run.entry in
+        GivesIf (has (CryptographicParameters holds has (KeyRoleType is_a Enumeration with is DEK)) items)
+        (λ parameters. items_of parameters) (members_of (from CryptographicParameters items)) result }
 {
-    let is_namespace = named_namespace(bytes, start, end);
-    let is_tag = named_tag(bytes, start, end);
-    let namespace = !(is_namespace & !seen.namespace) | valued(bytes, start, end, ns);
-    let key_tag = !(is_tag & !seen.tag) | valued(bytes, start, end, tag);
-    Seen {
-        good: vendored(bytes, start, end) & namespace & key_tag,
-        namespace: seen.namespace | is_namespace,
-        tag: seen.tag | is_tag,
-    }
+    let (parameters, _) = structure(run, CRYPTOGRAPHIC_PARAMETERS)?;
+    numbered(parameters, KEY_ROLE_TYPE, NumberType::Enumeration, ROLE_DEK)?;
+    Some(parameters)
 }
 
-// Every Attribute of a run, and the two that count. What is asked of the rest, with what was seen, is what was asked of the whole.
-fn others(bytes: &[u8], start: usize, end: usize, ns: usize, tag: usize) -> bool
-    ensures { (items : Items) → Runs bytes.now start end items → result ≡ others_good ns tag false false items }
+// The members of Cryptographic Parameters, if all else is well too.
+pub(crate) fn attributes(run: Run<'_>, slot: Slot) -> Option<Run<'_>>
+    ensures { let items = items_of run.entry in
+        GivesIf (attributesGood slot.namespace slot.tag items)
+        (λ parameters. items_of parameters) (members_of (from CryptographicParameters items)) result }
 {
-    let mut at = start;
-    let mut seen = Seen {
-        good: true,
-        namespace: false,
-        tag: false,
-    };
-    while at < end {
-        let m = member(bytes, at, end, ATTRIBUTE, STRUCTURE);
-        if !m.found {
-            return absent(bytes, at, end, ATTRIBUTE) & seen.namespace & seen.tag;
-        }
-        seen = attribute(bytes, m.start, m.next, ns, tag, seen);
-        if !seen.good {
-            return false;
-        }
-        at = m.next;
-    }
-    seen.namespace & seen.tag
-}
-
-// Cryptographic Parameters with the role of a media key.
-pub(crate) fn parameters(bytes: &[u8], start: usize, end: usize) -> Member
-    ensures { (items : Items) → Runs bytes.now start end items
-        → (result.found ≡ has (CryptographicParameters holds has (KeyRoleType is_a Enumeration with is DEK)) items)
-        × (result.found ≡ true → Runs bytes.now result.start result.next (members_of (from CryptographicParameters items))) }
-{
-    let m = member(bytes, start, end, CRYPTOGRAPHIC_PARAMETERS, STRUCTURE);
-    let found = m.found & role(bytes, m.start, m.next);
-    Member {
-        found,
-        start: m.start,
-        length: m.length,
-        next: m.next,
-    }
-}
-
-// Attributes: the Cryptographic Parameters, if all else is well too.
-pub(crate) fn attributes(bytes: &[u8], start: usize, end: usize, ns: usize, tag: usize) -> Member
-    ensures { (items : Items) → Runs bytes.now start end items
-        → (result.found ≡ attributesGood ns tag items)
-        × (result.found ≡ true → Runs bytes.now result.start result.next (members_of (from CryptographicParameters items))) }
-{
-    let p = parameters(bytes, start, end);
-    let found = p.found & others(bytes, start, end, ns, tag);
-    Member {
-        found,
-        start: p.start,
-        length: p.length,
-        next: p.next,
-    }
+    let parameters = parameters(run)?;
+    (each_vendored(run)
+        && valued(run, b"NamespaceID", slot.namespace)
+        && valued(run, b"KeyTag", slot.tag)).then_some(parameters)
 }

@@ -1,14 +1,14 @@
 // The key: Symmetric Key, Key Block, Key Value and Key Material, and where its algorithm and length stand.
-ghost use Rattle.std.specs.Prelude.{◌≡◌, true, ◌⊎◌, length, eqb};
+ghost use Rattle.std.specs.Prelude.{◌≡◌, List, ℕ, length, eqb};
+ghost use Rattle.rules.specs.Ttlv.{Items, ByteString};
 ghost use Rattle.rules.specs.Numbers.{key_size};
-ghost use Rattle.rules.specs.Ttlv.{Items, Integer, Enumeration, ByteString};
 ghost use Rattle.rules.specs.Kmip.{from, has, members_of, bytes_of, ◌is_a◌with◌, ◌holds◌, key_block as keyBlockGood, stands_in as isStanding, aes256};
 ghost use Rattle.rules.specs.Kmip.{KeyBlock, KeyMaterial, KeyValue};
-ghost use Rattle.kmip.specs.Runs.{Runs, KeyStands};
+ghost use Rattle.kmip.specs.Runs.{items_of, type_of, GivesIf};
 
-use crate::members::{BYTE_STRING, ENUMERATION, INTEGER, STRUCTURE, absent, member};
-use crate::rows::numbered;
-use crate::{Block, Member};
+use crate::members::{BYTE_STRING, absent, structure, value};
+use crate::rows::{NumberType, numbered};
+use crate::run::Run;
 use rules::KEY_SIZE;
 
 const CRYPTOGRAPHIC_ALGORITHM: u32 = 0x420028;
@@ -30,95 +30,57 @@ const ALGORITHM_AES: usize = 0x03;
 const AES_BITS: usize = 256;
 
 // Key Material: a byte string as long as a key.
-fn material(bytes: &[u8], start: usize, end: usize) -> Member
-    ensures { (items : Items) → Runs bytes.now start end items
-        → (result.found ≡ has (KeyMaterial is_a ByteString with (λ key. eqb (length key) key_size)) items)
-        × (result.found ≡ true → KeyStands bytes.now result.start (bytes_of (from KeyMaterial items))) }
+fn material(run: Run<'_>) -> Option<&[u8; KEY_SIZE]>
+    ensures { let items = items_of run.entry in
+        GivesIf (has (KeyMaterial is_a ByteString with (λ key. eqb (length key) key_size)) items) (λ key. key.now)
+        (bytes_of (from KeyMaterial items)) result }
 {
-    let m = member(bytes, start, end, KEY_MATERIAL, BYTE_STRING);
-    let found = m.found & (m.length == KEY_SIZE);
-    Member {
-        found,
-        start: m.start,
-        length: m.length,
-        next: m.next,
-    }
+    let (key, _) = value(run, KEY_MATERIAL, BYTE_STRING)?;
+    key.try_into().ok()
 }
 
-// Key Value: a structure with Key Material.
-fn key_value(bytes: &[u8], start: usize, end: usize) -> Member
-    ensures { (items : Items) → Runs bytes.now start end items
-        → (result.found ≡ has (KeyValue holds has (KeyMaterial is_a ByteString with (λ key. eqb (length key) key_size))) items)
-        × (result.found ≡ true → KeyStands bytes.now result.start (bytes_of (from KeyMaterial (members_of (from KeyValue items))))) }
+// Key Block: Key Format Type Raw, and a Key Value, which holds Key Material.
+fn key_block(run: Run<'_>) -> Option<&[u8; KEY_SIZE]>
+    ensures { let items = items_of run.entry in
+        GivesIf (keyBlockGood items) (λ key. key.now) (bytes_of (from KeyMaterial (members_of (from KeyValue items)))) result }
 {
-    let m = member(bytes, start, end, KEY_VALUE, STRUCTURE);
-    let k = material(bytes, m.start, m.next);
-    Member {
-        found: m.found & k.found,
-        start: k.start,
-        length: k.length,
-        next: k.next,
-    }
+    numbered(run, KEY_FORMAT_TYPE, NumberType::Enumeration, RAW)?;
+    let (members, _) = structure(run, KEY_VALUE)?;
+    material(members)
 }
 
-// Key Block: Key Format Type Raw, and a Key Value.
-fn key_block(bytes: &[u8], start: usize, end: usize) -> Member
-    ensures { (items : Items) → Runs bytes.now start end items
-        → (result.found ≡ keyBlockGood items)
-        × (result.found ≡ true → KeyStands bytes.now result.start (bytes_of (from KeyMaterial (members_of (from KeyValue items))))) }
+// Symmetric Key holds Key Block: that block's members, and the key in it.
+pub(crate) fn symmetric(run: Run<'_>) -> Option<(Run<'_>, &[u8; KEY_SIZE])>
+    ensures { let items = items_of run.entry in
+        let block = members_of (from KeyBlock items) in
+        GivesIf {B = Items × List ℕ} (has (KeyBlock holds keyBlockGood) items) (λ p. (items_of p.0, p.1.now))
+        (block, bytes_of (from KeyMaterial (members_of (from KeyValue block)))) result }
 {
-    let format = numbered(bytes, start, end, KEY_FORMAT_TYPE, ENUMERATION, RAW);
-    let k = key_value(bytes, start, end);
-    Member {
-        found: format.good & k.found,
-        start: k.start,
-        length: k.length,
-        next: k.next,
-    }
+    let (block, _) = structure(run, KEY_BLOCK)?;
+    let key = key_block(block)?;
+    Some((block, key))
 }
 
-// Symmetric Key holds Key Block.
-pub(crate) fn symmetric(bytes: &[u8], start: usize, end: usize) -> Block
-    ensures { (items : Items) → Runs bytes.now start end items
-        → (result.found ≡ has (KeyBlock holds keyBlockGood) items)
-        × (result.found ≡ true → Runs bytes.now result.start result.next (members_of (from KeyBlock items))
-        × KeyStands bytes.now result.key (bytes_of (from KeyMaterial (members_of (from KeyValue (members_of (from KeyBlock items))))))) }
+// Whether a number of this tag stands in the parameters or, if none stands there, in the Key Block.
+fn stands_in(parameters: Run<'_>, block: Run<'_>, tag: u32, kind: NumberType, n: usize) -> bool
+    ensures { result ≡ isStanding tag (type_of kind) n (items_of parameters.entry) (items_of block.entry) }
 {
-    let m = member(bytes, start, end, KEY_BLOCK, STRUCTURE);
-    let k = key_block(bytes, m.start, m.next);
-    Block {
-        found: m.found & k.found,
-        start: m.start,
-        next: m.next,
-        key: k.start,
-    }
-}
-
-// A number of this tag: in the parameters or, if none stands there, in the Key Block.
-fn stands_in(bytes: &[u8], tag: u32, kind: u8, n: usize, p: Member, b: Block) -> bool
-    requires { (kind ≡ Integer) ⊎ (kind ≡ Enumeration) }
-    ensures { (parameters block : Items) → Runs bytes.now p.start p.next parameters
-        → Runs bytes.now b.start b.next block → result ≡ isStanding tag kind n parameters block }
-{
-    if absent(bytes, p.start, p.next, tag) {
-        let step = numbered(bytes, b.start, b.next, tag, kind, n);
-        return step.good;
-    }
-    let step = numbered(bytes, p.start, p.next, tag, kind, n);
-    step.good
+    let run = if absent(parameters, tag) {
+        block
+    } else {
+        parameters
+    };
+    numbered(run, tag, kind, n).is_some()
 }
 
 // Algorithm AES and length 256.
-pub(crate) fn aes(bytes: &[u8], p: Member, b: Block) -> bool
-    ensures { (parameters block : Items) → Runs bytes.now p.start p.next parameters
-        → Runs bytes.now b.start b.next block → result ≡ aes256 parameters block }
+pub(crate) fn aes(parameters: Run<'_>, block: Run<'_>) -> bool
+    ensures { result ≡ aes256 (items_of parameters.entry) (items_of block.entry) }
 {
-    stands_in(
-        bytes,
+    let standing = |tag, kind, n| stands_in(parameters, block, tag, kind, n);
+    standing(
         CRYPTOGRAPHIC_ALGORITHM,
-        ENUMERATION,
+        NumberType::Enumeration,
         ALGORITHM_AES,
-        p,
-        b,
-    ) & stands_in(bytes, CRYPTOGRAPHIC_LENGTH, INTEGER, AES_BITS, p, b)
+    ) && standing(CRYPTOGRAPHIC_LENGTH, NumberType::Integer, AES_BITS)
 }

@@ -1,18 +1,17 @@
-// A message, from the payload out. Every member is looked for, whatever was found before: of a message that is refused nothing is kept.
-ghost use Rattle.std.specs.Prelude.{◌≡◌, true, false};
-ghost use Rattle.rules.specs.Ttlv.{Items};
-ghost use Rattle.rules.specs.Kmip.{payload_good, brought_by, in_order, batch_item, request_header, request_message, from, behind_of, members_of};
-ghost use Rattle.rules.specs.Kmip.{structure_then};
+// A message, from the payload out.
+ghost use Rattle.std.specs.Prelude.{◌≡◌};
+ghost use Rattle.rules.specs.Kmip.{payload_good, brought_by, in_order, batch_item, request_message, from, behind_of, members_of, load_of};
 ghost use Rattle.rules.specs.Kmip.{BatchItem, RequestHeader};
-ghost use Rattle.kmip.specs.Reading.{Requested};
-ghost use Rattle.kmip.specs.Runs.{Runs, Stepped, Brought, payload_of};
+ghost use Rattle.kmip.specs.Reading.{shown, loaded};
+ghost use Rattle.kmip.specs.Runs.{items_of, GivesIf, payload_of};
 
+use crate::Slot;
 use crate::attributes::attributes;
 use crate::keys::{aes, symmetric};
-use crate::members::{ENUMERATION, STRUCTURE, TEXT, member};
-use crate::rows::{header, numbered};
-use crate::{Load, Step};
-use ttlv::{Front, ITEM_HEAD, item_at};
+use crate::members::{Body, TEXT, structure, value};
+use crate::rows::{NumberType, header, numbered};
+use crate::run::{Run, run_of};
+use rules::KEY_SIZE;
 
 const BATCH_ITEM: u32 = 0x42000F;
 
@@ -36,116 +35,61 @@ const IMPORT: usize = 0x2A;
 
 const A_SYMMETRIC_KEY: usize = 0x02;
 
+// What a message brings.
+#[derive(Clone, Copy)]
+pub(crate) struct Load<'a> {
+    pub uid: &'a [u8],
+    pub key: &'a [u8; KEY_SIZE],
+}
+
 // Request Payload: Unique Identifier, Object Type, Attributes, Symmetric Key.
-fn payload(bytes: &[u8], start: usize, end: usize, ns: usize, tag: usize) -> Load
-    ensures { (items : Items) → Runs bytes.now start end items
-        → (result.good ≡ payload_good ns tag items) × (result.good ≡ true → Brought bytes.now result (brought_by items)) }
+fn payload(run: Run<'_>, slot: Slot) -> Option<Load<'_>>
+    ensures { let items = items_of run.entry in
+        GivesIf (payload_good slot.namespace slot.tag items) shown (brought_by items) result }
 {
-    let u = member(bytes, start, end, UNIQUE_IDENTIFIER, TEXT);
-    let o = numbered(
-        bytes,
-        u.next,
-        end,
-        OBJECT_TYPE,
-        ENUMERATION,
-        A_SYMMETRIC_KEY,
-    );
-    let a = member(bytes, o.next, end, ATTRIBUTES, STRUCTURE);
-    let p = attributes(bytes, a.start, a.next, ns, tag);
-    let y = member(bytes, a.next, end, SYMMETRIC_KEY, STRUCTURE);
-    let b = symmetric(bytes, y.start, y.next);
-    let rows = u.found & (o.good & ((a.found & p.found) & (y.found & b.found)));
-    Load {
-        good: rows & aes(bytes, p, b),
-        uid: u.start,
-        length: u.length,
-        key: b.key,
-    }
+    let (uid, rest) = value(run, UNIQUE_IDENTIFIER, TEXT)?;
+    let rest = numbered(rest, OBJECT_TYPE, NumberType::Enumeration, A_SYMMETRIC_KEY)?;
+    let (members, rest) = structure(rest, ATTRIBUTES)?;
+    let parameters = attributes(members, slot)?;
+    let (members, _) = structure(rest, SYMMETRIC_KEY)?;
+    let (block, key) = symmetric(members)?;
+    aes(parameters, block).then_some(Load { uid, key })
 }
 
 // Batch Item: Operation Import, Request Payload.
-fn batch(bytes: &[u8], start: usize, end: usize, ns: usize, tag: usize) -> Load
-    ensures { (items : Items) → Runs bytes.now start end items
-        → (result.good ≡ in_order (batch_item ns tag) items)
-        × (result.good ≡ true → Brought bytes.now result (brought_by (payload_of items))) }
+fn batch(run: Run<'_>, slot: Slot) -> Option<Load<'_>>
+    ensures { let items = items_of run.entry in
+        GivesIf (in_order (batch_item slot.namespace slot.tag) items) shown (brought_by (payload_of items)) result }
 {
-    let o = numbered(bytes, start, end, OPERATION, ENUMERATION, IMPORT);
-    let m = member(bytes, o.next, end, REQUEST_PAYLOAD, STRUCTURE);
-    let l = payload(bytes, m.start, m.next, ns, tag);
-    Load {
-        good: o.good & (m.found & l.good),
-        uid: l.uid,
-        length: l.length,
-        key: l.key,
-    }
-}
-
-// Request Header, first of a message's two members.
-fn headed(bytes: &[u8], start: usize, end: usize) -> Step
-    ensures { (items : Items) → Runs bytes.now start end items
-        → Stepped bytes.now end (from RequestHeader items)
-        (λ more. structure_then (in_order request_header) more (from RequestHeader items)) result }
-{
-    let m = member(bytes, start, end, REQUEST_HEADER, STRUCTURE);
-    let next = m.next;
-    let good = m.found & header(bytes, m.start, next);
-    Step { good, next }
+    let rest = numbered(run, OPERATION, NumberType::Enumeration, IMPORT)?;
+    let (members, _) = structure(rest, REQUEST_PAYLOAD)?;
+    payload(members, slot)
 }
 
 // Request Message: Request Header, Batch Item.
-fn message(bytes: &[u8], start: usize, end: usize, ns: usize, tag: usize) -> Load
-    ensures { (items : Items) → Runs bytes.now start end items
-        → (result.good ≡ in_order (request_message ns tag) items)
-        × (result.good ≡ true → Brought bytes.now result
-        (brought_by (payload_of (members_of (from BatchItem (behind_of (from RequestHeader items))))))) }
+fn message(run: Run<'_>, slot: Slot) -> Option<Load<'_>>
+    ensures { let items = items_of run.entry in
+        GivesIf (in_order (request_message slot.namespace slot.tag) items) shown
+        (brought_by (payload_of (members_of (from BatchItem (behind_of (from RequestHeader items)))))) result }
 {
-    let o = headed(bytes, start, end);
-    let m = member(bytes, o.next, end, BATCH_ITEM, STRUCTURE);
-    let l = batch(bytes, m.start, m.next, ns, tag);
-    Load {
-        good: o.good & (m.found & l.good),
-        uid: l.uid,
-        length: l.length,
-        key: l.key,
+    let (members, rest) = structure(run, REQUEST_HEADER)?;
+    if !header(members) {
+        return None;
     }
-}
-
-fn no_load() -> Load
-    ensures { result.good ≡ false }
-{
-    Load {
-        good: false,
-        uid: 0,
-        length: 0,
-        key: 0,
-    }
+    let (members, _) = structure(rest, BATCH_ITEM)?;
+    batch(members, slot)
 }
 
 // Exactly one outermost item, Request Message.
-pub(crate) fn request(bytes: &[u8], ns: usize, tag: usize) -> Load
-    ensures { Requested bytes.now ns tag result }
+pub(crate) fn request(bytes: &[u8], slot: Slot) -> Option<Load<'_>>
+    ensures { loaded result ≡ load_of slot.namespace slot.tag bytes.now }
 {
-    if !ttlv::sound(bytes) {
-        return no_load();
-    }
-    let end = bytes.len();
-    let front = item_at(bytes, 0, end);
-    match front {
-        Front::NoItem => no_load(),
-        Front::Value {
-            tag: _,
-            kind: _,
-            length: _,
-            next: _,
-        } => no_load(),
-        Front::Structure { tag: t, length } => {
-            let l = message(bytes, ITEM_HEAD, end, ns, tag);
-            Load {
-                good: (t == REQUEST_MESSAGE) & (ITEM_HEAD + length == end) & l.good,
-                uid: l.uid,
-                length: l.length,
-                key: l.key,
-            }
-        }
+    let mut run = run_of(bytes)?;
+    let item = run.next()?;
+    match item.body {
+        Body::Structure(members) if item.tag == REQUEST_MESSAGE && run.next().is_none() => message(
+            members, slot,
+        ),
+        _ => None,
     }
 }

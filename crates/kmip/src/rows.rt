@@ -1,14 +1,13 @@
 // Rows of the profile's tables, and the tables that hold numbers alone: each required member is the first of its tag behind the one before
 // it.
-ghost use Rattle.std.specs.Prelude.{◌≡◌, ◌⊎◌};
+ghost use Rattle.std.specs.Prelude.{◌≡◌};
 ghost use Rattle.cells.specs.Predicates.{same};
-ghost use Rattle.rules.specs.Ttlv.{Items, Structure, Integer, Enumeration, Text};
-ghost use Rattle.rules.specs.Kmip.{from, value_then, structure_then, in_order, has, ◌is_a◌with◌, is, any, two_or_more, protocol_version, request_header};
-ghost use Rattle.rules.specs.Kmip.{ProtocolVersion, ProtocolVersionMajor};
-ghost use Rattle.kmip.specs.Runs.{Runs, Stepped};
+ghost use Rattle.rules.specs.Ttlv.{Integer, Text};
+ghost use Rattle.rules.specs.Kmip.{in_order, has, ◌is_a◌with◌, is, two_or_more, protocol_version, request_header, ProtocolVersionMajor};
+ghost use Rattle.kmip.specs.Runs.{items_of, type_of, FoundNumber, Row};
 
-use crate::Step;
-use crate::members::{INTEGER, STRUCTURE, TEXT, member, number_in, reads};
+use crate::members::{TEXT, structure, value};
+use crate::run::Run;
 
 const BATCH_COUNT: u32 = 0x42000D;
 
@@ -18,85 +17,71 @@ const PROTOCOL_VERSION_MAJOR: u32 = 0x42006A;
 
 const PROTOCOL_VERSION_MINOR: u32 = 0x42006B;
 
-// A number has 4 bytes; those from this one on are negative.
-const NEGATIVE: usize = 0x80000000;
+// As signed numbers, those from this one on are negative.
+const NEGATIVE: u32 = 0x80000000;
 
-// A value of this tag and type.
-pub(crate) fn present(bytes: &[u8], start: usize, end: usize, tag: u32, kind: u8) -> Step
-    requires { kind ≡ Structure → ⊥ }
-    ensures { (items : Items) → Runs bytes.now start end items
-        → Stepped bytes.now end (from tag items) (λ more. value_then kind any more (from tag items)) result }
-{
-    let m = member(bytes, start, end, tag, kind);
-    let next = m.next;
-    let good = m.found & true;
-    Step { good, next }
+// The types of a value that is a number.
+#[derive(Clone, Copy)]
+pub(crate) enum NumberType {
+    Integer = 0x02,
+    Enumeration = 0x05,
 }
 
-// An integer or enumeration of this tag that is this number.
-pub(crate) fn numbered(bytes: &[u8], start: usize, end: usize, tag: u32, kind: u8, n: usize) -> Step
-    requires { (kind ≡ Integer) ⊎ (kind ≡ Enumeration) }
-    ensures { (items : Items) → Runs bytes.now start end items
-        → Stepped bytes.now end (from tag items) (λ more. value_then kind (is n) more (from tag items)) result }
+impl NumberType {
+    fn code(self) -> u8
+        ensures { result ≡ type_of self }
+    {
+        self as u8
+    }
+}
+
+// The first item with this tag, if it is a number of this type: the number, and the run behind it.
+fn number(run: Run<'_>, tag: u32, kind: NumberType) -> Option<(u32, Run<'_>)>
+    ensures { FoundNumber tag (type_of kind) (items_of run.entry) result }
 {
-    let m = member(bytes, start, end, tag, kind);
-    let next = m.next;
-    let good = m.found & (number_in(bytes, m) == n);
-    Step { good, next }
+    let (bytes, behind) = value(run, tag, kind.code())?;
+    let bytes = <[u8; 4]>::try_from(bytes).ok()?;
+    Some((u32::from_be_bytes(bytes), behind))
+}
+
+// The run behind the integer or enumeration of this tag, if it is this number.
+pub(crate) fn numbered(run: Run<'_>, tag: u32, kind: NumberType, n: usize) -> Option<Run<'_>>
+    ensures { Row (tag is_a (type_of kind) with is n) (items_of run.entry) result }
+{
+    let (number, behind) = number(run, tag, kind)?;
+    (number as usize == n).then_some(behind)
 }
 
 // Whether a text of this tag has these bytes.
-pub(crate) fn worded(bytes: &[u8], start: usize, end: usize, tag: u32, text: &[u8]) -> bool
-    ensures { (items : Items) → Runs bytes.now start end items
-        → result ≡ has (tag is_a Text with (λ name. same name text.now)) items }
+pub(crate) fn worded(run: Run<'_>, tag: u32, text: &[u8]) -> bool
+    ensures { result ≡ has (tag is_a Text with (λ name. same name text.now)) (items_of run.entry) }
 {
-    let m = member(bytes, start, end, tag, TEXT);
-    m.found & reads(bytes, m, text)
+    value(run, tag, TEXT).is_some_and(|(name, _)| name == text)
 }
 
-// Protocol Version Major: 2 or more, as a signed number.
-fn major(bytes: &[u8], start: usize, end: usize) -> Step
-    ensures { (items : Items) → Runs bytes.now start end items
-        → Stepped bytes.now end (from ProtocolVersionMajor items)
-        (λ more. value_then Integer two_or_more more (from ProtocolVersionMajor items)) result }
+// The run behind Protocol Version Major, if that is 2 or more, as a signed number.
+fn major(run: Run<'_>) -> Option<Run<'_>>
+    ensures { Row (ProtocolVersionMajor is_a Integer with two_or_more) (items_of run.entry) result }
 {
-    let m = member(bytes, start, end, PROTOCOL_VERSION_MAJOR, INTEGER);
-    let next = m.next;
-    let n = number_in(bytes, m);
-    let good = m.found & ((2 <= n) & (n < NEGATIVE));
-    Step { good, next }
+    let (number, behind) = number(run, PROTOCOL_VERSION_MAJOR, NumberType::Integer)?;
+    (2..NEGATIVE).contains(&number).then_some(behind)
 }
 
-fn version(bytes: &[u8], start: usize, end: usize) -> bool
-    ensures { (items : Items) → Runs bytes.now start end items → result ≡ in_order protocol_version items }
+fn version(run: Run<'_>) -> bool
+    ensures { result ≡ in_order protocol_version (items_of run.entry) }
 {
-    let a = major(bytes, start, end);
-    if !a.good {
-        return false;
-    }
-    let b = present(bytes, a.next, end, PROTOCOL_VERSION_MINOR, INTEGER);
-    b.good
-}
-
-fn versioned(bytes: &[u8], start: usize, end: usize) -> Step
-    ensures { (items : Items) → Runs bytes.now start end items
-        → Stepped bytes.now end (from ProtocolVersion items)
-        (λ more. structure_then (in_order protocol_version) more (from ProtocolVersion items)) result }
-{
-    let m = member(bytes, start, end, PROTOCOL_VERSION, STRUCTURE);
-    let next = m.next;
-    let good = m.found & version(bytes, m.start, next);
-    Step { good, next }
+    major(run).is_some_and(|rest| number(
+        rest,
+        PROTOCOL_VERSION_MINOR,
+        NumberType::Integer,
+    ).is_some())
 }
 
 // Request Header: Protocol Version, Batch Count 1.
-pub(crate) fn header(bytes: &[u8], start: usize, end: usize) -> bool
-    ensures { (items : Items) → Runs bytes.now start end items → result ≡ in_order request_header items }
+pub(crate) fn header(run: Run<'_>) -> bool
+    ensures { result ≡ in_order request_header (items_of run.entry) }
 {
-    let a = versioned(bytes, start, end);
-    if !a.good {
-        return false;
-    }
-    let b = numbered(bytes, a.next, end, BATCH_COUNT, INTEGER, 1);
-    b.good
+    structure(run, PROTOCOL_VERSION).is_some_and(|(members, rest)| {
+        version(members) && numbered(rest, BATCH_COUNT, NumberType::Integer, 1).is_some()
+    })
 }

@@ -1,9 +1,9 @@
 // The message of a load: the worked message of docs/KMIP.md with a namespace, a tag, a KeyUID and a key in their places. What stands before
 // the KeyUID has four lengths that go with it; what stands between its padding and the key has the two numbers.
 ghost use Rattle.std.specs.Prelude.{◌≡◌, ◌++◌, ◌≤◌, ◌<◌, length, drop};
-ghost use Rattle.rules.specs.Numbers.{key_size, uid_most};
+ghost use Rattle.rules.specs.Numbers.{uid_most};
 ghost use Rattle.kmip.specs.Writing.{message_room, message_bytes};
-ghost use Rattle.kmip.specs.Pieces.{before_size, between_size, before_uid, between_uid_and_key};
+ghost use Rattle.kmip.specs.Pieces.{before_uid, between_uid_and_key};
 
 use rules::KEY_SIZE;
 
@@ -26,35 +26,30 @@ const NAMESPACE: usize = 139;
 const TAG: usize = 194;
 
 // Up to the KeyUID of l bytes, which takes `room` with its padding, 8 or 16.
-fn up_to_uid(part: &mut [u8], l: usize, room: usize)
-    requires { (length part.old ≡ before_size) × (l ≤ uid_most) × (room ≤ uid_most) }
-    ensures { part.new ≡ before_uid l room }
+fn up_to_uid(l: usize, room: usize) -> [u8; BEFORE]
+    requires { (l ≤ uid_most) × (room ≤ uid_most) }
+    ensures { result ≡ before_uid l room }
 {
-    cells::copy(
-        part,
-        b"\
+    let mut part = *b"\
         \x42\x00\x78\x01\x00\x00\x01\x00\x42\x00\x77\x01\x00\x00\x00\x38\
         \x42\x00\x69\x01\x00\x00\x00\x20\x42\x00\x6A\x02\x00\x00\x00\x04\
         \x00\x00\x00\x02\x00\x00\x00\x00\x42\x00\x6B\x02\x00\x00\x00\x04\
         \x00\x00\x00\x00\x00\x00\x00\x00\x42\x00\x0D\x02\x00\x00\x00\x04\
         \x00\x00\x00\x01\x00\x00\x00\x00\x42\x00\x0F\x01\x00\x00\x01\x00\
         \x42\x00\x5C\x05\x00\x00\x00\x04\x00\x00\x00\x2A\x00\x00\x00\x00\
-        \x42\x00\x79\x01\x00\x00\x01\x00\x42\x00\x94\x07\x00\x00\x00\x00",
-    );
+        \x42\x00\x79\x01\x00\x00\x01\x00\x42\x00\x94\x07\x00\x00\x00\x00";
     part[MESSAGE_LENGTH] = (0x80 + room) as u8;
     part[BATCH_ITEM_LENGTH] = (0x38 + room) as u8;
     part[PAYLOAD_LENGTH] = (0x20 + room) as u8;
     part[KEY_UID_LENGTH] = l as u8;
+    part
 }
 
 // From there to the key.
-fn up_to_key(part: &mut [u8], ns: u8, tag: u16)
-    requires { length part.old ≡ between_size }
-    ensures { part.new ≡ between_uid_and_key ns tag }
+fn up_to_key(ns: u8, tag: u16) -> [u8; BETWEEN]
+    ensures { result ≡ between_uid_and_key ns tag }
 {
-    cells::copy(
-        part,
-        b"\
+    let mut part = *b"\
         \x42\x00\x57\x05\x00\x00\x00\x04\x00\x00\x00\x02\x00\x00\x00\x00\
         \x42\x01\x25\x01\x00\x00\x00\xB0\x42\x00\x2B\x01\x00\x00\x00\x30\
         \x42\x00\x83\x05\x00\x00\x00\x04\x00\x00\x00\x03\x00\x00\x00\x00\
@@ -70,29 +65,28 @@ fn up_to_key(part: &mut [u8], ns: u8, tag: u16)
         \x00\x00\x00\x00\x00\x00\x00\x00\x42\x00\x8F\x01\x00\x00\x00\x48\
         \x42\x00\x40\x01\x00\x00\x00\x40\x42\x00\x42\x05\x00\x00\x00\x04\
         \x00\x00\x00\x01\x00\x00\x00\x00\x42\x00\x45\x01\x00\x00\x00\x28\
-        \x42\x00\x43\x08\x00\x00\x00\x20",
-    );
+        \x42\x00\x43\x08\x00\x00\x00\x20";
     part[NAMESPACE] = ns;
-    part[TAG] = (tag / 256) as u8;
-    part[TAG + 1] = (tag % 256) as u8;
+    [part[TAG], part[TAG + 1]] = tag.to_be_bytes();
+    part
 }
 
 // The message at the front of the output, and its size.
-pub(crate) fn lay(ns: u8, tag: u16, uid: &[u8], key: &[u8], out: &mut [u8]) -> usize
-    requires { (message_room ≤ length out.old) × (0 < length uid.now) × (length uid.now ≤ uid_most) × (length key.now ≡ key_size) }
+pub(crate) fn lay(ns: u8, tag: u16, uid: &[u8], key: &[u8; KEY_SIZE], out: &mut [u8]) -> usize
+    requires { (message_room ≤ length out.old) × (0 < length uid.now) × (length uid.now ≤ uid_most) }
     ensures { (result ≡ length (message_bytes ns tag uid.now key.now))
         × (out.new ≡ message_bytes ns tag uid.now key.now ++ drop result out.old) }
 {
     let l = uid.len();
-    let room = (l + 7) / 8 * 8;
+    let room = l.next_multiple_of(8);
     let uid_end = BEFORE + l;
     let at = BEFORE + room;
     let key_at = at + BETWEEN;
     let end = key_at + KEY_SIZE;
-    up_to_uid(&mut out[..BEFORE], l, room);
-    cells::copy(&mut out[BEFORE..uid_end], uid);
-    cells::fill_zero(&mut out[uid_end..at]);
-    up_to_key(&mut out[at..key_at], ns, tag);
-    cells::copy(&mut out[key_at..end], key);
+    out[..BEFORE].copy_from_slice(&up_to_uid(l, room));
+    out[BEFORE..uid_end].copy_from_slice(uid);
+    out[uid_end..at].fill(0);
+    out[at..key_at].copy_from_slice(&up_to_key(ns, tag));
+    out[key_at..end].copy_from_slice(key);
     end
 }

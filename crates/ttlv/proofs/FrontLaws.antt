@@ -1,10 +1,10 @@
 -- The front of a run of bytes, by places in the whole.
 -- Assumes nothing.
 use mathlib.Core.Path.{◌≡◌, refl, sym, ap, ◌∙◌}
-use mathlib.Core.Bool.{true, false, ◌&&◌}
+use mathlib.Core.Bool.{Bool, true, false, true≢false, ◌&&◌}
+use mathlib.Core.Logic.{◌⊎◌, inl, inr}
 use mathlib.Core.List.{List, [], ◌∷◌}
-use Prim.Native.Nat.{ℕ, zero, suc, ◌+◌, ◌-◌, ◌<◌, ◌≤◌}
-use native.Mathlib.Nat.{add-zero}
+use Prim.Native.Nat.{ℕ, zero, suc, ◌+◌, ◌-◌, ◌%◌, ◌<◌, ◌≤◌}
 use native.Mathlib.Omega.{arith}
 use lib.ListN.{length, take, drop, get_or}
 use lib.Seq.{length-take-le}
@@ -13,22 +13,25 @@ use lib.Seq.{take-take, drop-drop, take-nil}
 use borrow.Author.Tests.{le-leb, lt-leb, leb-true, eq-eqb, ne_eqb}
 use Rattle.cells.specs.Cells.{part}
 use Rattle.cells.specs.Predicates.{all_zero}
-use Rattle.cells.proofs.CellsLaws.{length_part, get_d_part, part_part}
+use Rattle.cells.proofs.CellsLaws.{length_part, part_three, part_four}
+use Rattle.std.proofs.lemmas.List.{get_or-take}
+use Rattle.std.specs.Bool.{then_some}
 use Rattle.cells.proofs.PredicatesLaws.{and_left, and_right}
 use Rattle.rules.specs.Ttlv.{Structure, item_head, to_eight, is_value, no_item, a_value, a_structure, front_of, front}
 use Rattle.rules.specs.Ttlv as ttlv
-use Rattle.rules.specs.Fields.{byte, big}
+use Rattle.rules.specs.Fields.{byte, big, big_endian}
 use Rattle.rules.proofs.TtlvFrontLaws.{on_cond, front_is}
-use Rattle.ttlv.specs.declared.Head.{Head}
+use Rattle.ttlv.specs.declared.reading.Head.{Head}
 use Rattle.ttlv.specs.declared.Front.{Front}
-use Rattle.ttlv.specs.declared.Front.TheVariants.{NoItem, Value}
+use Rattle.ttlv.specs.declared.Front.TheVariants.{Value}
+use Rattle.std.specs.Prelude.{Option, Some, None}
 use Rattle.ttlv.specs.declared.Front.TheVariants as places
 use Rattle.ttlv.specs.Reading.{Headed, placed, front_at, item_at, shown, Inside, Fronted}
 
 -- ------------------------------------------------------------------------
 -- Bytes of a part
 
-drop_take : (n m : ℕ) (ys : List ℕ) → drop n (take m ys) ≡ take (m - n) (drop n ys)
+pub drop_take : (n m : ℕ) (ys : List ℕ) → drop n (take m ys) ≡ take (m - n) (drop n ys)
 drop_take zero m ys = let e : m - 0 ≡ m = omega arith in rw e
 drop_take (suc n) zero ys = let e : zero - suc n ≡ 0 = omega arith in rw e
 drop_take (suc n) (suc m) [] = sym (take-nil (suc m - suc n))
@@ -43,90 +46,103 @@ unfolding part
 take_part n a m xs h = take-take n m (drop a xs) h
 
 -- ------------------------------------------------------------------------
+-- Padding
+
+-- the next multiple of eight, by what is known of one
+pub to_eight_is : (n r : ℕ) → n ≤ r → r < n + 8 → r % 8 ≡ 0 → r ≡ to_eight n
+to_eight_is n r l m z = omega arith
+
+-- it is not there
+pub past_whole : (n whole m : ℕ) → whole ≡ to_eight n → (whole < n) ⊎ (m < whole) → m < to_eight n
+past_whole n whole m e (inl l) = absurd (omega arith)
+past_whole n whole m e (inr l) = omega arith
+
+-- it is, as it is lent
+pub lent_padding : (n whole : ℕ) (behind padding : List ℕ) → whole ≡ to_eight n → padding ≡ take (whole - n) (drop n behind)
+    → padding ≡ part n (to_eight n - n) behind
+unfolding part
+lent_padding n whole behind padding e p = p ∙ ap (λ w. take (w - n) (drop n behind)) e
+
+-- ------------------------------------------------------------------------
+-- The front of a run that starts at `at`, by what a reading of its head gave
+
+headed_front : (run head : List ℕ) (h : Head) → item_head ≤ length run → head ≡ take item_head run → Headed head h
+    → front run ≡ front_of h.tag h.kind h.length (drop item_head run)
+headed_front run head h l e i =
+    let g : (k : ℕ) → k < item_head → get_or head k 0 ≡ get_or run k 0 =
+    (λ k m. ap (λ x. get_or x k 0) e ∙ get_or-take item_head run k 0 m) in
+    let t : h.tag ≡ big 0 2 run =
+    i.tag_is
+    ∙ rw (g 0 (omega arith), g 1 (omega arith), g 2 (omega arith))
+    (sym (ap big_endian (part_three 0 1 2 run (omega arith) (omega arith) (omega arith)))) in
+    let k : h.kind ≡ byte 3 run = i.kind_is ∙ g 3 (omega arith) in
+    let n : h.length ≡ big 4 7 run =
+    i.length_is
+    ∙ rw (g 4 (omega arith), g 5 (omega arith), g 6 (omega arith), g 7 (omega arith))
+    (sym (ap big_endian (part_four 4 5 6 run (omega arith) (omega arith) 7 (omega arith) (omega arith)))) in
+    front_is run l ∙ rw (t, k, n)
+
+pub short_none : (at : ℕ) (run : List ℕ) → length run < item_head → None ≡ placed at (front run)
+unfolding front placed
+short_none at run h = rw (lt-leb item_head (length run) h)
+
+module _ (at tag kind n : ℕ) (behind : List ℕ) where
+  abbrev pub found : Option Front
+  found = placed at (front_of tag kind n behind)
+
+  pub structure_found : kind ≡ Structure → then_some (leb n (length behind)) (places.Structure tag n) ≡ found
+  unfolding front_of placed
+  structure_found e =
+      let b = leb n (length behind) in
+      rw (eq-eqb kind Structure e)
+      (on_cond (λ f. then_some b (places.Structure tag n) ≡ placed at f) b _ _
+      (λ t. rw (t, length-take-le n behind (leb-true n (length behind) t)))
+      (λ f. rw f))
+
+  abbrev clean : Bool
+  clean = all_zero (part n (to_eight n - n) behind)
+
+  abbrev valued : Bool
+  valued = is_value kind n && leb (to_eight n) (length behind) && clean
+
+  module _ (e : kind ≡ Structure → ⊥) where
+    pub wide_none : length behind < to_eight n → found ≡ None
+    unfolding front_of placed
+    wide_none h =
+        rw (ne_eqb kind Structure e)
+        (on_cond (λ f. placed at f ≡ None) valued _ _
+        (λ t. let l = leb-true (to_eight n) (length behind) (and_right (is_value kind n) _ (and_left _ clean t)) in absurd (omega arith))
+        (λ f. refl))
+
+    pub unvalued_none : is_value kind n ≡ false → found ≡ None
+    unfolding front_of placed
+    unvalued_none v = rw (ne_eqb kind Structure e, v)
+
+    pub unclean_none : all_zero (part n (to_eight n - n) behind) ≡ false → found ≡ None
+    unfolding front_of placed
+    unclean_none z =
+        rw (ne_eqb kind Structure e)
+        (on_cond (λ f. placed at f ≡ None) valued _ _ (λ t. absurd (true≢false (sym (and_right _ clean t) ∙ z))) (λ f. refl))
+
+    pub value_found : is_value kind n ≡ true → to_eight n ≤ length behind → all_zero (part n (to_eight n - n) behind) ≡ true
+        → found ≡ Some (Value tag kind n (at + item_head + to_eight n))
+    unfolding front_of placed
+    value_found v h z = rw (ne_eqb kind Structure e, v, le-leb (to_eight n) (length behind) h, z, length-take-le n behind (omega arith))
+
+pub found_is : (at : ℕ) (run head behind : List ℕ) (h : Head) → Headed head h → head ≡ take item_head run → behind ≡ drop item_head run
+    → length behind + item_head ≡ length run → found at h.tag h.kind h.length behind ≡ placed at (front run)
+found_is at run head behind h i eh eb l =
+    ap (λ b. placed at (front_of h.tag h.kind h.length b)) eb ∙ sym (ap (placed at) (headed_front run head h (omega arith) eh i))
+
+-- ------------------------------------------------------------------------
 -- The front of the run from `at` to `end`
 
-module _ (xs : List ℕ) (at end : ℕ) (l : at ≤ end) (m : end ≤ length xs) where
-  run : length (part at (end - at) xs) ≡ end - at
-  run = length_part at (end - at) xs (omega arith)
-
-  pub front_short : end - at < item_head → front (part at (end - at) xs) ≡ no_item
-  unfolding front
-  front_short h = rw (run, lt-leb item_head (end - at) h)
-
-  pub front_run : item_head ≤ end - at → (h : Head) → Headed xs at h
-      → front (part at (end - at) xs) ≡ front_of h.tag h.kind h.length (part (at + item_head) (end - (at + item_head)) xs)
-  front_run k h i =
-      let r = part at (end - at) xs in
-      let e : end - at - item_head ≡ end - (at + item_head) = omega arith in
-      let a : part 0 3 r ≡ part at 3 xs = part_part at (end - at) 0 3 xs (omega arith) (omega arith) ∙ ap (λ b. part b 3 xs) (add-zero at) in
-      let b : get_or r 3 0 ≡ get_or xs (at + 3) 0 = get_d_part at (end - at) 3 xs (omega arith) in
-      let c : part 4 4 r ≡ part (at + 4) 4 xs = part_part at (end - at) 4 4 xs (omega arith) (omega arith) in
-      let d : drop item_head r ≡ part (at + item_head) (end - (at + item_head)) xs =
-      drop_part item_head at (end - at) xs ∙ ap (λ n. part (at + item_head) n xs) e in
-      front_is r (omega (arith, run)) ∙ rw (a, b, c, d, i.tag_is, i.kind_is, i.length_is)
-
-module _ (xs : List ℕ) (start end : ℕ) (l : start ≤ end) (m : end ≤ length xs) (tag kind n : ℕ) where
+module _ (xs : List ℕ) (start end : ℕ) (l : start ≤ end) (m : end ≤ length xs) where
   rest_length : length (part start (end - start) xs) ≡ end - start
   rest_length = length_part start (end - start) xs (omega arith)
 
   behind : (k : ℕ) → drop k (part start (end - start) xs) ≡ part (start + k) (end - (start + k)) xs
   behind k = let e : end - start - k ≡ end - (start + k) = omega arith in drop_part k start (end - start) xs ∙ ap (λ j. part (start + k) j xs) e
-
-  pub front_long : kind ≡ Structure → end - start < n → front_of tag kind n (part start (end - start) xs) ≡ no_item
-  unfolding front_of
-  front_long e h = rw (eq-eqb kind Structure e, rest_length, lt-leb n (end - start) h)
-
-  pub front_opens : kind ≡ Structure → n ≤ end - start
-      → front_of tag kind n (part start (end - start) xs) ≡ a_structure tag (part start n xs) (part (start + n) (end - (start + n)) xs)
-  unfolding front_of
-  front_opens e h = rw (eq-eqb kind Structure e, rest_length, le-leb n (end - start) h, take_part n start (end - start) xs h, behind n)
-
-  pub front_unvalued : (kind ≡ Structure → ⊥) → is_value kind n ≡ false → front_of tag kind n (part start (end - start) xs) ≡ no_item
-  unfolding front_of
-  front_unvalued e v = rw (ne_eqb kind Structure e, v)
-
-  pub front_wide : (kind ≡ Structure → ⊥) → is_value kind n ≡ true → end - start < to_eight n
-      → front_of tag kind n (part start (end - start) xs) ≡ no_item
-  unfolding front_of
-  front_wide e v h = rw (ne_eqb kind Structure e, v, rest_length, lt-leb (to_eight n) (end - start) h)
-
-  padding_at : to_eight n ≤ end - start → part n (to_eight n - n) (part start (end - start) xs) ≡ part (start + n) (to_eight n - n) xs
-  padding_at h = part_part start (end - start) n (to_eight n - n) xs (omega arith) (omega arith)
-
-  pub front_unclean : (kind ≡ Structure → ⊥) → is_value kind n ≡ true → to_eight n ≤ end - start
-      → all_zero (part (start + n) (to_eight n - n) xs) ≡ false
-      → front_of tag kind n (part start (end - start) xs) ≡ no_item
-  unfolding front_of
-  front_unclean e v h z = rw (ne_eqb kind Structure e, v, rest_length, le-leb (to_eight n) (end - start) h, padding_at h, z)
-
-  pub front_closed : (kind ≡ Structure → ⊥) → is_value kind n ≡ true → to_eight n ≤ end - start
-      → all_zero (part (start + n) (to_eight n - n) xs) ≡ true
-      → front_of tag kind n (part start (end - start) xs) ≡ a_value tag kind (part start n xs) (part (start + to_eight n) (end - (start + to_eight n)) xs)
-  unfolding front_of
-  front_closed e v h z =
-      let t = take_part n start (end - start) xs (omega arith) in
-      rw (ne_eqb kind Structure e, v, rest_length, le-leb (to_eight n) (end - start) h, padding_at h, z, t, behind (to_eight n))
-
--- the padding as it is lent
-pub lent_padding : (start n : ℕ) (xs : List ℕ) → take (start + to_eight n - (start + n)) (drop (start + n) xs) ≡ part (start + n) (to_eight n - n) xs
-unfolding part
-lent_padding start n xs = let e : start + to_eight n - (start + n) ≡ to_eight n - n = omega arith in rw e
-
--- ------------------------------------------------------------------------
--- A front by places is the front that stands there
-
-pub from_places : (xs : List ℕ) (at end : ℕ) → at ≤ end → end ≤ length xs → (r : Front) → Fronted xs at end r → front_at xs at end ≡ r
-unfolding front_at placed
-from_places xs at end l m NoItem f = ap (placed at) f.is
-from_places xs at end l m (Value tag kind n next) f =
-    let i = f.inside.0 in
-    let j = f.inside.1 in
-    let e : length (part (at + item_head) n xs) ≡ n = length_part (at + item_head) n xs (omega arith) in
-    ap (placed at) f.is ∙ rw (e, i)
-from_places xs at end l m (places.Structure tag n) f =
-    let i = f.inside in
-    let e : length (part (at + item_head) n xs) ≡ n = length_part (at + item_head) n xs (omega arith) in
-    ap (placed at) f.is ∙ rw e
 
 -- and it stands there
 abbrev Shows : List ℕ → ℕ → ℕ → ttlv.Front → Type 0
@@ -142,17 +158,17 @@ module _ (xs : List ℕ) (at end : ℕ) (l : at ≤ end) (m : end ≤ length xs)
   shows_structure : n ≤ length room → Shows xs at end (a_structure tag (take n room) (drop n room))
   unfolding placed
   shows_structure h =
-      let r = rest_length xs start end (omega arith) m tag type n in
+      let r = rest_length xs start end (omega arith) m in
       let ln : length (take n room) ≡ n = length-take-le n room h in
-      (rw (ln, take_part n start (end - start) xs (omega arith), behind xs start end (omega arith) m tag type n n), rw ln (omega arith))
+      (rw (ln, take_part n start (end - start) xs (omega arith), behind xs start end (omega arith) m n), rw ln (omega arith))
 
   shows_value : to_eight n ≤ length room → Shows xs at end (a_value tag type (take n room) (drop (to_eight n) room))
   unfolding placed
   shows_value h =
-      let r = rest_length xs start end (omega arith) m tag type n in
+      let r = rest_length xs start end (omega arith) m in
       let ln : length (take n room) ≡ n = length-take-le n room (omega arith) in
       let t = take_part n start (end - start) xs (omega arith) in
-      (rw (ln, t, behind xs start end (omega arith) m tag type n (to_eight n)), rw ln (refl, omega arith))
+      (rw (ln, t, behind xs start end (omega arith) m (to_eight n)), rw ln (refl, omega arith))
 
   shows_of : Shows xs at end (front_of tag type n room)
   unfolding front_of placed
@@ -186,10 +202,14 @@ pub item_there : (xs : List ℕ) (at end : ℕ) → at ≤ end → end ≤ lengt
 unfolding item_at
 item_there xs at end l m = rw (le-leb at end l, le-leb end (length xs) m)
 
-pub item_back : (xs : List ℕ) (at end : ℕ) → end < at → item_at xs at end ≡ NoItem
+pub item_none : (xs : List ℕ) (at end : ℕ) → (end < at) ⊎ (length xs < end) → None ≡ item_at xs at end
 unfolding item_at
-item_back xs at end l = rw (lt-leb at end l)
+item_none xs at end (inl back) = rw (lt-leb at end back)
+item_none xs at end (inr past) =
+    on_cond {A = Option Front} (λ r. None ≡ r) (leb at end && leb end (length xs)) (front_at xs at end) None
+    (λ t. let l = leb-true end (length xs) (and_right (leb at end) _ t) in absurd (omega arith))
+    (λ f. refl)
 
-pub item_past : (xs : List ℕ) (at end : ℕ) → at ≤ end → length xs < end → item_at xs at end ≡ NoItem
-unfolding item_at
-item_past xs at end l m = rw (le-leb at end l, lt-leb end (length xs) m)
+-- by what was found there
+pub found_fronted : (xs : List ℕ) (at end : ℕ) → at ≤ end → end ≤ length xs → (r : Option Front) → r ≡ item_at xs at end → Fronted xs at end r
+found_fronted xs at end l m r e = rw (e ∙ item_there xs at end l m) (fronted xs at end l m)

@@ -14,7 +14,7 @@ use lib.Dec.{leb, ltb}
 use borrow.Author.Tests.{leb-true, ltb-true, ne_eqb}
 use Rattle.cells.specs.Cells.{part}
 use Rattle.cells.proofs.CellsLaws.{length_part}
-use Rattle.cells.proofs.PredicatesLaws.{and_left, and_right, to_false}
+use Rattle.cells.proofs.PredicatesLaws.{and_left, and_right}
 use Rattle.rules.specs.Ttlv.{Items, end, value, structure, Structure, encode, depth, deepest, is_value, AreBytes, FitItems, read_items}
 use Rattle.rules.proofs.TtlvFrontLaws.{bytes_take, bytes_drop}
 use Rattle.rules.proofs.TtlvLaws.{ttlv_promised}
@@ -95,9 +95,6 @@ value_kind k n v =
     let c = ne_eqb k 7 (λ e. omega arith) in
     let d = ne_eqb k 8 (λ e. omega arith) in
     absurd (true≢false (sym v ∙ rw (a, b, c, d))))
-
-pub wide_kind : (k n : ℕ) → 256 ≤ k → false ≡ is_value k n
-wide_kind k n h = to_false (is_value k n) (λ v. let l = value_kind k n v in omega arith)
 
 good_inside_one : (values : List ℕ) (i : Item) → Good values i → Inside values i
 good_inside_one values i g =

@@ -1,6 +1,6 @@
 pub mod FrontLaws
 pub mod ListLaws
-pub mod MidLaws
+pub mod WalkLaws
 pub mod ListingLaws
 pub mod ItemsInLaws
 pub mod TreeLaws
@@ -8,6 +8,7 @@ pub mod GoodLaws
 pub mod PutLaws
 pub mod ItemLoopLaws
 pub mod LayLaws
+pub mod RoomLaws
 pub mod WroteLaws
 pub mod WrittenLaws
 pub mod ListedLaws

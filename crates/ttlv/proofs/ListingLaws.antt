@@ -1,28 +1,31 @@
--- A list as numbers: one item more behind those that are laid, and the turns of
--- the lister, which are those of the reader.
+-- A list as numbers: one item more behind those that are laid, as the walk goes on.
 -- Assumes nothing.
 use mathlib.Core.Path.{◌≡◌, refl, sym, ap, ◌∙◌}
 use mathlib.Core.Bool.{false, true≢false}
-use mathlib.Core.Logic.{by_cases}
 use mathlib.Core.List.{List, [], ◌∷◌, ◌++◌, append_assoc, append-nil}
 use mathlib.Core.Option.{Option, none, some}
-use Prim.Native.Nat.{ℕ, suc, ◌+◌, ◌-◌, ◌*◌, ◌<◌, ◌≤◌}
-use native.Mathlib.Decide.{dec_lt}
+use Prim.Native.Nat.{ℕ, ◌+◌, ◌-◌, ◌*◌, ◌<◌, ◌≤◌}
 use native.Mathlib.Omega.{arith}
-use lib.ListN.{length, take, drop, get_or, set, length-append, length-drop}
+use lib.ListN.{length, take, drop, length-append, length-drop}
 use lib.Seq.{take_at, drop_at, drop-drop}
 use borrow.Author.Tests.{lt-ltb, le-ltb}
-use Rattle.cells.proofs.CellsLaws.{lent_rest, back_rest, lent_length_to}
-use Rattle.rules.specs.Ttlv.{Items, item_head, deepest, read_items}
-use Rattle.rules.specs.Ttlv as ttlv
+use Rattle.rules.specs.Ttlv.{Items, item_head, read_items}
 use Rattle.ttlv.specs.declared.Item.{Item}
-use Rattle.ttlv.specs.declared.Front.TheVariants.{NoItem, Value, Structure}
-use Rattle.ttlv.specs.declared.ListRead.TheVariants.{Listed, NoPlaces, NoItems}
-use Rattle.ttlv.specs.ItemList.{is_some, item, list_at, list_of}
-use Rattle.ttlv.specs.Reading.{Fronted, Mid}
+use Rattle.std.specs.Prelude.{Result, Ok, Err}
+use Rattle.ttlv.specs.declared.ReadError.{ReadError}
+use Rattle.ttlv.specs.declared.ReadError.TheVariants.{NoPlaces, NoItems}
+use Rattle.ttlv.specs.declared.walk.Walk.{Walk}
+use Rattle.ttlv.specs.declared.walk.Found.{Found}
+use Rattle.ttlv.specs.ItemList.{is_some, list_at, list_of, join}
+use Rattle.ttlv.specs.Walking.{Open, Onward, Starts, NumbersFit, left, rest, item_of}
 use Rattle.ttlv.specs.Listing.{Reading, item_places, items_most, message_most, numbers_of, all_numbers, laid, read_list}
-use Rattle.ttlv.specs.Places.{PlacesFor, Listable, Laid}
-use Rattle.ttlv.proofs.MidLaws.{mid_start, mid_end, mid_close, mid_deep, mid_broken, mid_value, mid_open, at_end, end_inside, sound_if}
+use Rattle.ttlv.specs.Places.{Listable, Laid}
+use Rattle.ttlv.proofs.ListLaws.{one, join_assoc, join_empty, empty_join}
+use Rattle.ttlv.proofs.WalkLaws.{sound_if}
+
+push : (done : List Item) (i : Item) (r : Option (List Item)) → join (some (done ++ i ∷ [])) r ≡ join (some done) (join (one i) r)
+unfolding join
+push done i r = join_assoc (some done) (one i) r
 
 -- ------------------------------------------------------------------------
 -- The numbers of a list
@@ -37,50 +40,44 @@ unfolding all_numbers
 numbers_more [] i = append-nil (numbers_of i)
 numbers_more (j ∷ is) i = ap (λ ns. numbers_of j ++ ns) (numbers_more is i)
 
--- one item more, at the front of the places behind those that are laid
+-- one item more, behind those that are laid
 laid_more : (places now r : List ℕ) (done : List Item) (i : Item) (count : ℕ) → count ≡ length done
-    → now ≡ all_numbers done ++ drop (item_places * count) places
+    → item_places * count + item_places ≤ length now → now ≡ all_numbers done ++ drop (item_places * count) places → r ≡ numbers_of i
     → let from = item_places * count in
-    r ≡ numbers_of i ++ drop item_places (take (length now - from) (drop from now))
-    → take from now ++ (r ++ drop (length now - from) (drop from now)) ≡ all_numbers (done ++ i ∷ []) ++ drop (item_places * (count + 1)) places
-laid_more places now r done i count n l e =
+    take from now ++ (r ++ drop (from + item_places - from) (drop from now)) ≡ all_numbers (done ++ i ∷ []) ++ drop (item_places * (count + 1)) places
+laid_more places now r done i count n h l e =
     let from = item_places * count in
     let p = all_numbers done in
     let lp : length p ≡ from = length_numbers done ∙ ap (λ k. item_places * k) (sym n) in
     let t : take from now ≡ p = ap (take from) l ∙ take_at p (drop from places) from lp in
     let d : drop from now ≡ drop from places = ap (drop from) l ∙ drop_at p (drop from places) from lp in
+    let w : from + item_places - from ≡ item_places = omega arith in
     let k : from + item_places ≡ item_places * (count + 1) = omega arith in
     let free = drop (item_places * (count + 1)) places in
-    let b : r ≡ numbers_of i ++ free =
-    e
-    ∙ ap (λ x. numbers_of i ++ drop item_places x) (lent_rest from now ∙ d)
-    ∙ ap (λ x. numbers_of i ++ x) (drop-drop item_places from places ∙ ap (λ x. drop x places) k) in
-    back_rest from r now
-    ∙ rw (t, b)
+    rw (t, d, e, w, drop-drop item_places from places, k)
     (sym (append_assoc p (numbers_of i) free) ∙ ap (λ x. x ++ free) (sym (numbers_more done i)))
 
 -- ------------------------------------------------------------------------
--- The turns
+-- The steps
 
--- the items so far are laid
-pub record Filling (xs places now ends : List ℕ) (levels at count : ℕ) : Type 0 where
+-- the items so far are laid, and what is left completes the whole
+pub record Filling (xs places now : List ℕ) (w : Walk) (count : ℕ) : Type 0 where
   pub done : List Item
-  pub mid : Mid xs ends levels at done
+  pub over : w.bytes.now ≡ xs
+  pub open_so : Open w
+  pub room : item_head * length done ≤ w.at
+  pub whole : join (some done) (left w) ≡ list_at 1 0 xs
   pub counted : count ≡ length done
   pub laid_so : now ≡ all_numbers done ++ drop (item_places * count) places
 
-pub fill_start : (xs places ends : List ℕ) → get_or ends 0 0 ≡ length xs → length ends ≡ suc deepest → Filling xs places places ends 1 0 0
+pub fill_start : (xs places : List ℕ) (w : Walk) → Starts xs w → Filling xs places places w 0
 unfolding all_numbers
-fill_start xs places ends e l = record { done = []; mid = mid_start xs ends e l; counted = refl; laid_so = refl }
+fill_start xs places w s =
+    record { done = []; over = s.over; open_so = s.open_so; room = omega arith; whole = join_empty (left w) ∙ s.whole; counted = refl; laid_so = refl }
 
-module _ {xs places now ends : List ℕ} {levels at count : ℕ} (g : Listable xs places) (f : Filling xs places now ends levels at count) where
+module _ {xs places now : List ℕ} {w : Walk} {count : ℕ} (g : Listable xs places) (f : Filling xs places now w count) where
   fill_few : item_head * count ≤ message_most
-  fill_few =
-      let a = f.counted in
-      let b = f.mid.room in
-      let c = f.mid.inside in
-      let d = g.short in
-      omega arith
+  fill_few = omega (arith, f.counted, f.room, f.open_so.inside, ap length f.over, g.short)
 
   pub fill_length : length now ≡ length places
   fill_length =
@@ -89,111 +86,48 @@ module _ {xs places now ends : List ℕ} {levels at count : ℕ} (g : Listable x
       let e = g.enough in
       ap length f.laid_so ∙ simp (length-append, length-drop, length_numbers) (omega arith)
 
-  pub fill_end : levels ≡ 0 → Laid xs places count now
+  pub fill_end : left w ≡ some [] → Laid xs places (Ok count) now
   fill_end e =
       let n = f.counted in
-      sym (ap (laid places) (sym (mid_end xs ends levels at f.done f.mid e)) ∙ rw (← n, ← f.laid_so))
-
-  module _ (l : 0 < levels) where
-    pub fill_close : at ≡ get_or ends (levels - 1) 0 → Filling xs places now ends (levels - 1) at count
-    fill_close e =
-        record { done = f.done; mid = mid_close xs ends levels at f.done f.mid l e; counted = f.counted; laid_so = f.laid_so }
-
-    pub fill_run : (at ≤ get_or ends (levels - 1) 0) × (get_or ends (levels - 1) 0 ≤ length xs)
-    fill_run = (at_end xs ends levels at f.done f.mid l, end_inside xs ends levels at f.done f.mid l)
-
--- before the innermost end, with an item to lay
-pub record Turn (xs places now ends : List ℕ) (levels at count : ℕ) : Type 0 where
-  pub good : Listable xs places
-  pub so_far : Filling xs places now ends levels at count
-  pub some_level : 0 < levels
-  pub some_left : at ≡ get_or ends (levels - 1) 0 → ⊥
-
-module _ {xs places now ends : List ℕ} {levels at count : ℕ} (t : Turn xs places now ends levels at count) where
-  abbrev f : Filling xs places now ends levels at count
-  f = t.so_far
+      let all : some f.done ≡ list_at 1 0 xs = sym (empty_join (some f.done)) ∙ ap (join (some f.done)) (sym e) ∙ f.whole in
+      sym (ap (laid places) (sym all) ∙ rw (← n, ← f.laid_so))
 
   -- the bytes are items
-  never : list_at 1 0 xs ≡ none → ⊥
-  never n = true≢false (sym t.good.sound ∙ sound_if xs none n)
+  pub fill_never : left w ≡ none → ⊥
+  unfolding join
+  fill_never e = true≢false (sym g.sound ∙ sound_if xs none (sym f.whole ∙ ap (join (some f.done)) e))
 
-  pub turn_within : levels ≤ deepest
-  turn_within =
-      by_cases (dec_lt deepest levels)
-      (λ h. absurd (never (mid_deep xs ends levels at f.done f.mid t.some_level t.some_left h)))
-      (λ h. omega arith)
+  module _ (m : Walk) (i : Found) (over : m.bytes.now ≡ w.bytes.now)
+      (on : Onward w.bytes.now w.ends w.levels w.at (item_of i) m.ends m.levels m.at) where
+    pub found_fits : NumbersFit (item_of i)
+    found_fits =
+        let d = on.depth_fits in
+        let n = on.inside in
+        let o = ap length f.over in
+        let s = g.short in
+        record { depth_fits = omega arith; start_fits = omega arith; length_fits = omega arith }
 
-  pub turn_broken : Fronted xs at (get_or ends (levels - 1) 0) NoItem → ⊥
-  turn_broken b = never (mid_broken xs ends levels at f.done f.mid t.some_level t.some_left turn_within b)
+    -- from the first place that is free
+    pub found_room : item_places * count + item_places ≤ length now
+    found_room =
+        omega (arith, fill_length, f.room, f.counted, on.on, on.between.inside, ap length f.over, g.short, g.enough)
 
-  -- from the first place that is free
-  pub turn_room : at + item_head ≤ length xs → item_places * count + item_places ≤ length now
-  turn_room h =
-      let same = fill_length t.good f in
-      let m = f.mid.room in
-      let k = f.counted in
-      let s = t.good.short in
-      let e = t.good.enough in
-      omega arith
-
-  lent : (n : ℕ) → at + item_head + n ≤ length xs
-      → PlacesFor levels (at + item_head) n (take (length now - item_places * count) (drop (item_places * count) now))
-  lent n h =
-      let w = turn_within in
-      let r = turn_room (omega arith) in
-      let s = t.good.short in
-      let q = lent_length_to (item_places * count) (length now) now (omega arith) in
-      record { enough = omega arith; depth_fits = w; start_fits = omega arith; length_fits = omega arith }
-
-  more : (i : Item) → count + 1 ≡ length (f.done ++ i ∷ [])
-  more i = ap (λ k. k + 1) f.counted ∙ sym (length-append f.done (i ∷ []))
-
-  module _ (tag kind n next : ℕ) (v : Fronted xs at (get_or ends (levels - 1) 0) (Value tag kind n next)) where
-    pub value_inside : at + item_head + n ≤ length xs
-    value_inside =
-        let a = v.inside in
-        let b = fill_run t.good f t.some_level in
-        omega arith
-
-    pub value_places : PlacesFor levels (at + item_head) n (take (length now - item_places * count) (drop (item_places * count) now))
-    value_places = lent n value_inside
-
-    pub value_more : (r : List ℕ)
-        → r ≡ numbers_of (item tag kind levels (at + item_head) n) ++ drop item_places
-        (take (length now - item_places * count) (drop (item_places * count) now))
+    pub found_more : (r : List ℕ) → r ≡ numbers_of (item_of i)
         → let from = item_places * count in
-        Filling xs places (take from now ++ (r ++ drop (length now - from) (drop from now))) ends levels next (count + 1)
-    value_more r e =
-        let i = item tag kind levels (at + item_head) n in
+        Filling xs places (take from now ++ (r ++ drop (from + item_places - from) (drop from now))) m (count + 1)
+    found_more r e =
+        let longer = length-append f.done (item_of i ∷ []) in
         record {
-          done = f.done ++ i ∷ [];
-          mid = mid_value xs ends levels at f.done f.mid t.some_level t.some_left turn_within tag kind n next v;
-          counted = more i;
-          laid_so = laid_more places now r f.done i count f.counted f.laid_so e;
-        }
-
-  module _ (tag n : ℕ) (v : Fronted xs at (get_or ends (levels - 1) 0) (Structure tag n)) where
-    pub structure_inside : at + item_head + n ≤ length xs
-    structure_inside =
-        let a = v.inside in
-        let b = fill_run t.good f t.some_level in
-        omega arith
-
-    pub structure_places : PlacesFor levels (at + item_head) n (take (length now - item_places * count) (drop (item_places * count) now))
-    structure_places = lent n structure_inside
-
-    pub structure_more : (r : List ℕ)
-        → let from = item_places * count in
-        r ≡ numbers_of (item tag ttlv.Structure levels (at + item_head) n) ++ drop item_places (take (length now - from) (drop from now))
-        → Filling xs places (take from now ++ (r ++ drop (length now - from) (drop from now)))
-        (set ends levels (at + item_head + n)) (levels + 1) (at + item_head) (count + 1)
-    structure_more r e =
-        let i = item tag ttlv.Structure levels (at + item_head) n in
-        record {
-          done = f.done ++ i ∷ [];
-          mid = mid_open xs ends levels at f.done f.mid t.some_level t.some_left turn_within tag n v;
-          counted = more i;
-          laid_so = laid_more places now r f.done i count f.counted f.laid_so e;
+          done = f.done ++ item_of i ∷ [];
+          over = over ∙ f.over;
+          open_so = rw over on.between;
+          room = omega (arith, longer, f.room, on.on);
+          whole =
+              push f.done (item_of i) (left m)
+              ∙ ap (join (some f.done)) (ap (λ x. join (one (item_of i)) (rest x m.ends m.levels m.at)) over ∙ sym on.taken)
+              ∙ f.whole;
+          counted = ap (λ k. k + 1) f.counted ∙ sym longer;
+          laid_so = laid_more places now r f.done (item_of i) count f.counted found_room f.laid_so e;
         }
 
 -- ------------------------------------------------------------------------
@@ -204,23 +138,23 @@ unsound none e = refl
 unsound (some a) e = absurd (true≢false e)
 
 module _ (xs places : List ℕ) where
-  pub read_few : length places < item_places * items_most → ◌≡◌ {A = Reading} (record { result = NoPlaces; places = places }) (read_list xs places)
+  pub read_few : length places < item_places * items_most → ◌≡◌ {A = Reading} (record { result = Err NoPlaces; places = places }) (read_list xs places)
   unfolding read_list
   read_few h = sym (rw (lt-ltb (length places) (item_places * items_most) h))
 
   module _ (enough : item_places * items_most ≤ length places) where
-    pub read_long : message_most < length xs → ◌≡◌ {A = Reading} (record { result = NoItems; places = places }) (read_list xs places)
+    pub read_long : message_most < length xs → ◌≡◌ {A = Reading} (record { result = Err NoItems; places = places }) (read_list xs places)
     unfolding read_list
     read_long h = sym (rw (le-ltb (length places) (item_places * items_most) enough, lt-ltb message_most (length xs) h))
 
     module _ (short : length xs ≤ message_most) where
-      pub read_unsound : is_some (read_items xs) ≡ false → ◌≡◌ {A = Reading} (record { result = NoItems; places = places }) (read_list xs places)
+      pub read_unsound : is_some (read_items xs) ≡ false → ◌≡◌ {A = Reading} (record { result = Err NoItems; places = places }) (read_list xs places)
       unfolding read_list list_at list_of
       read_unsound e =
           let o = unsound (read_items xs) e in
           sym (rw (le-ltb (length places) (item_places * items_most) enough, le-ltb message_most (length xs) short, o))
 
-      pub read_laid : (n : ℕ) (now : List ℕ) → Laid xs places n now
-          → ◌≡◌ {A = Reading} (record { result = Listed n; places = now }) (read_list xs places)
+      pub read_laid : (r : Result ℕ ReadError) (now : List ℕ) → Laid xs places r now
+          → ◌≡◌ {A = Reading} (record { result = r; places = now }) (read_list xs places)
       unfolding read_list
-      read_laid n now e = e ∙ sym (rw (le-ltb (length places) (item_places * items_most) enough, le-ltb message_most (length xs) short))
+      read_laid r now e = e ∙ sym (rw (le-ltb (length places) (item_places * items_most) enough, le-ltb message_most (length xs) short))

@@ -1,16 +1,14 @@
 -- What the stores of one item leave.
 -- Assumes nothing.
 use mathlib.Core.Path.{◌≡◌, sym, ap, ◌∙◌}
-use mathlib.Core.Bool.{cond}
 use mathlib.Core.List.{List, ◌++◌, append_assoc, append-nil}
 use Prim.Native.Nat.{ℕ, ◌+◌, ◌-◌, ◌≤◌}
 use native.Mathlib.Omega.{arith}
 use lib.ListN.{length, take, drop, length-append, length-drop}
 use lib.Seq.{drop-drop, drop_at, take_at, length-take-le}
-use lib.Dec.{eqb}
 use borrow.Author.Tests.{eq-eqb, ne_eqb}
 use Rattle.cells.specs.Cells.{part, zeros}
-use Rattle.cells.proofs.CellsLaws.{push, length_part, lent_is, copied, lent_length_to}
+use Rattle.cells.proofs.CellsLaws.{push, length_part, lent_is, lent_length_to}
 use Rattle.rules.specs.Ttlv.{Structure, head, item_head, to_eight}
 use Rattle.rules.proofs.TtlvFrontLaws.{length_head}
 use Rattle.ttlv.specs.declared.Item.{Item}
@@ -69,29 +67,28 @@ piece_value values i out n l =
     rw (l, take_at h (drop item_head out) item_head lh, d, ne_eqb i.kind Structure n) (sym (append_assoc h (v ++ z) (drop (item_head + m) out)))
 
 -- the two loans of `put_value`, by what the callees leave
-pub value_by : (v out y w : List ℕ) → from + to_eight (length v) ≤ length out
+pub value_by : (v out y w : List ℕ) (m : ℕ) → m ≡ to_eight (length v) → from + to_eight (length v) ≤ length out
     → let n = length v in
-    let end = from + to_eight n in
-    let lent = take (from + n - from) (drop from out) in
+    let end = from + m in
     let o = take from out ++ (y ++ drop (from + n - from) (drop from out)) in
-    y ≡ cond (eqb (length lent) n) v lent
+    y ≡ v
     → w ≡ zeros (length (take (end - (from + n)) (drop (from + n) o)))
     → take (from + n) o ++ (w ++ drop (end - (from + n)) (drop (from + n) o)) ≡ value_put v out
-value_by v out y w l ey ew =
+value_by v out y w m em l ey ew =
     let n = length v in
-    let end = from + to_eight n in
-    let yv : y ≡ v = ey ∙ copied from (from + n) out v (omega arith) (omega arith) in
+    let end = from + m in
     let o = take from out ++ (y ++ drop (from + n - from) (drop from out)) in
     let o' = take from out ++ (v ++ drop (from + n - from) (drop from out)) in
     let lh : length (take from out) ≡ from = length-take-le from out (omega arith) in
     let lo : length o' ≡ length out = ap length (part_back from (from + n) v out (omega arith)) ∙ simp (length-append, length-drop, lh) (omega arith) in
-    let oo : o ≡ o' = ap (λ a. take from out ++ (a ++ drop (from + n - from) (drop from out))) yv in
+    let oo : o ≡ o' = ap (λ a. take from out ++ (a ++ drop (from + n - from) (drop from out))) ey in
     let wz : w ≡ zeros (end - (from + n)) =
     ew
     ∙ ap (λ a. zeros (length (take (end - (from + n)) (drop (from + n) a)))) oo
     ∙ ap zeros (lent_length_to (from + n) end o' (omega arith)) in
     ap (λ a. take (from + n) a ++ (w ++ drop (end - (from + n)) (drop (from + n) a))) oo
     ∙ ap (λ a. take (from + n) o' ++ (a ++ drop (end - (from + n)) (drop (from + n) o'))) wz
+    ∙ ap (λ k. take (from + n) o' ++ (zeros (from + k - (from + n)) ++ drop (from + k - (from + n)) (drop (from + n) o'))) em
     ∙ value_put_lem v out l
 
 pub after_head : (i : Item) (out o : List ℕ) → item_head ≤ length out → o ≡ head i.tag i.kind i.length ++ drop item_head out

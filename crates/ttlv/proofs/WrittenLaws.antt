@@ -14,8 +14,7 @@ use Rattle.cells.proofs.PredicatesLaws.{and_left, and_right}
 use Rattle.rules.specs.Ttlv.{AreBytes, encode, read_items}
 use Rattle.rules.proofs.TtlvFrontLaws.{on_cond}
 use Rattle.ttlv.specs.declared.Item.{Item}
-use Rattle.ttlv.specs.declared.ListRead.TheVariants.{Listed, NoPlaces, NoItems}
-use Rattle.ttlv.specs.declared.Written.TheVariants.{Bytes, Short, NoList}
+use Rattle.std.specs.Prelude.{Result, Ok}
 use Rattle.ttlv.specs.ItemList.{list_at}
 use Rattle.ttlv.specs.Listing.{Reading, item_places, items_most, message_most, all_numbers, items_in, laid, read_list}
 use Rattle.ttlv.specs.Writing.{Wrote, tree_of, good_from, good_list, room_for, written_items, write_list}
@@ -27,21 +26,15 @@ use Rattle.ttlv.proofs.GoodLaws.{good_from_lem, good_inside, written_back}
 -- ------------------------------------------------------------------------
 -- Reading
 
-few_places : (n : ℕ) → NoPlaces ≡ Listed n → ⊥
-few_places n e = let z : ◌≡◌ {A = ℕ} 0 1 = cc in omega arith
-
-no_items : (n : ℕ) → NoItems ≡ Listed n → ⊥
-no_items n e = let z : ◌≡◌ {A = ℕ} 0 1 = cc in omega arith
-
-same_count : (m n : ℕ) → Listed m ≡ Listed n → m ≡ n
+same_count : {E : Type 0} (m n : ℕ) → ◌≡◌ {A = Result ℕ E} (Ok m) (Ok n) → m ≡ n
 same_count m n e = cc
 
 module _ (n : ℕ) (o : Option (List Item)) where
   abbrev So : Reading → Type 0
-  So r = r.result ≡ Listed n → some (items_in n r.places) ≡ o
+  So r = r.result ≡ Ok n → some (items_in n r.places) ≡ o
 
 so_laid : (n : ℕ) (places : List ℕ) (o : Option (List Item)) → So n o (laid places o)
-so_laid n places none e = absurd (no_items n e)
+so_laid n places none e = cc
 so_laid n places (some is) e =
     let rest = drop (item_places * length is) places in
     ap some (ap (λ k. items_in k (all_numbers is ++ rest)) (sym (same_count (length is) n e)) ∙ numbers_back is rest)
@@ -50,48 +43,38 @@ so : (xs places : List ℕ) (n : ℕ) → So n (list_at 1 0 xs) (read_list xs pl
 unfolding read_list
 so xs places n =
     on_cond (So n (list_at 1 0 xs)) (ltb (length places) (item_places * items_most)) _ _
-    (λ h e. absurd (few_places n e))
-    (λ h. on_cond (So n (list_at 1 0 xs)) (ltb message_most (length xs)) _ _ (λ k e. absurd (no_items n e)) (λ k. so_laid n places (list_at 1 0 xs)))
+    (λ h e. cc)
+    (λ h. on_cond (So n (list_at 1 0 xs)) (ltb message_most (length xs)) _ _ (λ k e. cc) (λ k. so_laid n places (list_at 1 0 xs)))
 
 -- ------------------------------------------------------------------------
 -- Writing
 
--- a refusal is no number of bytes
-not_short : (n : ℕ) → Short ≡ Bytes n → ⊥
-not_short n e = let z : ◌≡◌ {A = ℕ} 0 1 = cc in omega arith
-
-not_refused : (n : ℕ) → NoList ≡ Bytes n → ⊥
-not_refused n e = let z : ◌≡◌ {A = ℕ} 0 1 = cc in omega arith
-
-same_bytes : (m n : ℕ) → Bytes m ≡ Bytes n → m ≡ n
-same_bytes m n e = cc
-
 module _ (values : List ℕ) (is : List Item) (n : ℕ) (b : AreBytes values) where
   abbrev Back : Wrote → Type 0
-  Back w = w.result ≡ Bytes n → read_items (take n w.out) ≡ some (tree_of values is)
+  Back w = w.result ≡ Ok n → read_items (take n w.out) ≡ some (tree_of values is)
 
   back_all : (out : List ℕ) → good_list (length values) is ≡ true
-      → Back (record { result = Bytes (room_for is); out = encode (tree_of values is) ++ drop (room_for is) out })
+      → Back (record { result = Ok (room_for is); out = encode (tree_of values is) ++ drop (room_for is) out })
   back_all out g e =
       let good = good_from_lem values 1 is (and_left _ _ g) in
       let small : room_for is < 2 ^ 32 = ltb-true (room_for is) (2 ^ 32) (and_right (good_from (length values) 1 is) _ g) in
       let l : length (encode (tree_of values is)) ≡ n =
-      room_tree values (length is) is (omega arith) (good_inside values is good) ∙ same_bytes (room_for is) n e in
+      room_tree values (length is) is (omega arith) (good_inside values is good) ∙ same_count (room_for is) n e in
       ap read_items (take_at (encode (tree_of values is)) (drop (room_for is) out) n l) ∙ written_back values is b good small
 
   back_items : (out : List ℕ) → Back (written_items values is out)
   unfolding written_items
   back_items out =
       on_cond Back (ltb (length out) (room_for is)) _ _
-      (λ h e. absurd (not_short n e))
-      (λ h. on_cond Back (good_list (length values) is) _ _ (λ g. back_all out g) (λ g e. absurd (not_refused n e)))
+      (λ h e. cc)
+      (λ h. on_cond Back (good_list (length values) is) _ _ (λ g. back_all out g) (λ g e. cc))
 
-back : (items : List ℕ) (count : ℕ) (values out : List ℕ) (n : ℕ) → AreBytes values → ((write_list items count values out).result ≡ Bytes n)
+back : (items : List ℕ) (count : ℕ) (values out : List ℕ) (n : ℕ) → AreBytes values → ((write_list items count values out).result ≡ Ok n)
     → read_items (take n (write_list items count values out).out) ≡ some (tree_of values (items_in count items))
 unfolding write_list
 back items count values out n b =
     on_cond (Back values (items_in count items) n b) (ltb items_most count || ltb (length items) (item_places * count)) _ _
-    (λ h e. absurd (not_refused n e))
+    (λ h e. cc)
     (λ h. back_items values (items_in count items) n b out)
 
 pub lists_promised : ListsPromised

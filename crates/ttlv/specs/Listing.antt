@@ -1,11 +1,11 @@
 -- Item lists as numbers that a caller lends: five of them an item. Any numbers
 -- can be taken for a list.
 -- Assumes nothing.
-use Rattle.std.specs.Prelude.{cond, List, [], ◌∷◌, ◌++◌, ℕ, zero, suc, ◌*◌, length, drop, get_or, ltb}
+use Rattle.std.specs.Prelude.{cond, List, [], ◌∷◌, ◌++◌, ℕ, zero, suc, ◌*◌, length, drop, get_or, ltb, Result, Ok, Err}
 use Rattle.std.proofs.Math.Option.{Option, none, some}
 use Rattle.ttlv.specs.declared.Item.{Item}
-use Rattle.ttlv.specs.declared.ListRead.{ListRead}
-use Rattle.ttlv.specs.declared.ListRead.TheVariants.{Listed, NoPlaces, NoItems}
+use Rattle.ttlv.specs.declared.ReadError.{ReadError}
+use Rattle.ttlv.specs.declared.ReadError.TheVariants.{NoPlaces, NoItems}
 use Rattle.ttlv.specs.ItemList.{item, list_at}
 
 abbrev pub item_places : ℕ
@@ -38,15 +38,15 @@ items_in (suc n) ns = first_item ns ∷ items_in n (drop item_places ns)
 -- as they were.
 
 pub record Reading : Type 0 where
-  pub result : ListRead
+  pub result : Result ℕ ReadError
   pub places : List ℕ
 
 abbrev pub laid : List ℕ → Option (List Item) → Reading
-laid places none = record { result = NoItems; places = places }
-laid places (some is) = record { result = Listed (length is); places = all_numbers is ++ drop (item_places * length is) places }
+laid places none = record { result = Err NoItems; places = places }
+laid places (some is) = record { result = Ok (length is); places = all_numbers is ++ drop (item_places * length is) places }
 
 unfoldable pub read_list : List ℕ → List ℕ → Reading
 read_list xs places =
     cond (ltb (length places) (item_places * items_most))
-    (record { result = NoPlaces; places = places })
-    (cond (ltb message_most (length xs)) (record { result = NoItems; places = places }) (laid places (list_at 1 0 xs)))
+    (record { result = Err NoPlaces; places = places })
+    (cond (ltb message_most (length xs)) (record { result = Err NoItems; places = places }) (laid places (list_at 1 0 xs)))

@@ -1,7 +1,8 @@
 -- The bytes of a list, item by item, each with the length that it is written
 -- with; and what the writer's own functions are lent.
 -- Assumes nothing.
-use Rattle.std.specs.Prelude.{◌≡◌, cond, List, [], ◌∷◌, ◌++◌, ℕ, ◌+◌, ◌*◌, ◌^◌, ◌<◌, ◌≤◌, length, take, drop}
+use Rattle.std.specs.Prelude.{◌≡◌, cond, List, [], ◌∷◌, ◌++◌, ℕ, ◌+◌, ◌*◌, ◌^◌, ◌<◌, ◌≤◌, ◌⊎◌}
+use Rattle.std.specs.Prelude.{length, take, drop, map}
 use Rattle.cells.specs.Cells.{part}
 use Rattle.rules.specs.Ttlv.{Structure, head, item_head, to_eight, padding, encode}
 use Rattle.ttlv.specs.declared.Item.{Item}
@@ -9,9 +10,9 @@ use Rattle.ttlv.specs.ItemList.{item}
 use Rattle.ttlv.specs.Listing.{item_places, items_most, first_item, items_in}
 use Rattle.ttlv.specs.Writing.{is_structure, deeper, tree_of, room_of, room_for}
 
--- item i of some numbers
-unfoldable pub item_no : ℕ → List ℕ → Item
-item_no i ns = first_item (drop (item_places * i) ns)
+-- the items of arrays of numbers
+abbrev pub items_of : List (List ℕ) → List Item
+items_of arrays = map first_item arrays
 
 -- a structure is its head; its members are the items behind it
 unfoldable pub piece_of : List ℕ → Item → List ℕ
@@ -42,34 +43,30 @@ AllInside values (i ∷ is) = Inside values i × AllInside values is
 unfoldable pub value_put : List ℕ → List ℕ → List ℕ
 value_put v out = take item_head out ++ ((v ++ padding (length v)) ++ drop (item_head + to_eight (length v)) out)
 
--- item i of so many, as it is written
-abbrev pub written_no : ℕ → ℕ → List ℕ → Item
-written_no count i ns = with_length (item_no i ns) (room_for (deeper (item_no i ns).depth (drop (i + 1) (items_in count ns))))
-
 -- ------------------------------------------------------------------------
 -- What the writer's own functions are lent, and leave
 
--- there are so many items, and not too many
-pub record Enough (count : ℕ) (ns : List ℕ) : Type 0 where
+-- there are not so many items, or too many
+abbrev pub Absent : ℕ → List ℕ → Type 0
+Absent count ns = (items_most < count) ⊎ (length ns < item_places * count)
+
+-- there are so many, and not too many; these are their numbers
+pub record FirstItems (count : ℕ) (ns : List ℕ) (arrays : List (List ℕ)) : Type 0 where
   pub few : count ≤ items_most
   pub there : item_places * count ≤ length ns
-
--- one of them, with what is behind it, takes no more bytes than a length can say
-pub record Member (count i : ℕ) (ns : List ℕ) : Type 0 where
-  pub enough : Enough count ns
-  pub one_of : i < count
-  pub fits : room_for (drop i (items_in count ns)) < 2 ^ 32
+  pub so_many : length arrays ≡ count
+  pub items : items_of arrays ≡ items_in count ns
 
 -- the bytes of an item, whose length has four bytes
 pub record Room (i : Item) (r : ℕ) : Type 0 where
   pub is : r ≡ room_of i
   pub small : r ≤ 2 ^ 32 + 16
 
-pub record Layable (ns : List ℕ) (count : ℕ) (values out : List ℕ) : Type 0 where
-  pub enough : Enough count ns
-  pub inside : AllInside values (items_in count ns)
-  pub room : room_for (items_in count ns) ≤ length out
-  pub fits : room_for (items_in count ns) < 2 ^ 32
+pub record Layable (is : List Item) (values out : List ℕ) : Type 0 where
+  pub few : length is ≤ items_most
+  pub inside : AllInside values is
+  pub room : room_for is ≤ length out
+  pub fits : room_for is < 2 ^ 32
 
 pub record LaidOut (is : List Item) (values out : List ℕ) (r : ℕ) (now : List ℕ) : Type 0 where
   pub all : r ≡ room_for is

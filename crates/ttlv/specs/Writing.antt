@@ -3,12 +3,12 @@
 -- length are not looked at.
 -- Assumes nothing.
 use Rattle.std.specs.Prelude.{Bool, true, false, ◌&&◌, ◌||◌, cond, List, [], ◌∷◌, ◌++◌, ℕ, zero, suc, ◌+◌, ◌*◌, ◌^◌, length}
-use Rattle.std.specs.Prelude.{drop, eqb, ltb, leb}
+use Rattle.std.specs.Prelude.{drop, eqb, ltb, leb, Result, Ok, Err}
 use Rattle.cells.specs.Cells.{part}
 use Rattle.rules.specs.Ttlv.{Items, end, value, structure, Structure, item_head, to_eight, encode, deepest, is_value}
 use Rattle.ttlv.specs.declared.Item.{Item}
-use Rattle.ttlv.specs.declared.Written.{Written}
-use Rattle.ttlv.specs.declared.Written.TheVariants.{Bytes, Short, NoList}
+use Rattle.ttlv.specs.declared.WriteError.{WriteError}
+use Rattle.ttlv.specs.declared.WriteError.TheVariants.{Short, NoList}
 use Rattle.ttlv.specs.Listing.{item_places, items_most, items_in}
 
 abbrev pub is_structure : Item → Bool
@@ -73,19 +73,19 @@ good_list n is = good_from n 1 is && ltb (room_for is) (2 ^ 32)
 -- then. Else just the encoding, and the output behind it stays.
 
 pub record Wrote : Type 0 where
-  pub result : Written
+  pub result : Result ℕ WriteError
   pub out : List ℕ
 
 unfoldable pub written_items : List ℕ → List Item → List ℕ → Wrote
 written_items values is out =
     cond (ltb (length out) (room_for is))
-    (record { result = Short; out = out })
+    (record { result = Err Short; out = out })
     (cond (good_list (length values) is)
-    (record { result = Bytes (room_for is); out = encode (tree_of values is) ++ drop (room_for is) out })
-    (record { result = NoList; out = out }))
+    (record { result = Ok (room_for is); out = encode (tree_of values is) ++ drop (room_for is) out })
+    (record { result = Err NoList; out = out }))
 
 unfoldable pub write_list : List ℕ → ℕ → List ℕ → List ℕ → Wrote
 write_list items count values out =
     cond (ltb items_most count || ltb (length items) (item_places * count))
-    (record { result = NoList; out = out })
+    (record { result = Err NoList; out = out })
     (written_items values (items_in count items) out)

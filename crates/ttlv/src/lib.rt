@@ -5,16 +5,18 @@ ghost use Rattle.std.specs.Prelude.{◌≡◌};
 ghost use Rattle.rules.specs.Ttlv.{read_items};
 ghost use Rattle.ttlv.specs.ItemList.{is_some};
 ghost use Rattle.ttlv.specs.Reading.{item_at};
-ghost use Rattle.ttlv.specs.Listing.{read_list};
+ghost use Rattle.ttlv.specs.Listing.{first_item, read_list};
 ghost use Rattle.ttlv.specs.Writing.{write_list};
 
 mod listing;
 mod reading;
+mod walk;
 mod writing;
 
 use listing::list;
-use reading::front_at;
-use writing::{good_list, lay, total_room};
+use reading::front_of;
+use walk::Walk;
+use writing::{first_items, good_list, lay, total_room};
 
 pub const DEEPEST: usize = 8;
 
@@ -40,18 +42,27 @@ pub struct Item {
     pub length: u32,
 }
 
-// The head of an item.
-#[derive(Clone, Copy)]
-pub(crate) struct Head {
-    pub tag: u32,
-    pub kind: u8,
-    pub length: usize,
+// An item's numbers.
+pub(crate) type Numbers = [u32; ITEM_PLACES];
+
+impl From<Numbers> for Item {
+    ghost from_gives = { λ numbers item. item ≡ first_item numbers };
+
+    fn from(numbers: Numbers) -> Item {
+        let [tag, kind, depth, start, length] = numbers;
+        Item {
+            tag,
+            kind,
+            depth,
+            start,
+            length,
+        }
+    }
 }
 
 // What stands at the front of a run of bytes, by places: a value and where the next item would start, or a structure.
 #[derive(Clone, Copy)]
 pub enum Front {
-    NoItem,
     Value {
         tag: u32,
         kind: u8,
@@ -64,116 +75,71 @@ pub enum Front {
     },
 }
 
-// What reading a list came to: so many items, too few places for any message, or bytes that are no items.
-#[derive(Clone, Copy)]
-pub enum ListRead {
-    Listed(usize),
+// Why no list is read: too few places for any message, or bytes that are no items.
+#[derive(Clone, Copy, Debug, PartialEq, Eq)]
+pub enum ReadError {
     NoPlaces,
     NoItems,
 }
 
-// What writing a list came to: so many bytes, too little room, or numbers that are no item list.
-#[derive(Clone, Copy)]
-pub enum Written {
-    Bytes(usize),
+// Why no bytes are written: too little room, or numbers that are no item list.
+#[derive(Clone, Copy, Debug, PartialEq, Eq)]
+pub enum WriteError {
     Short,
     NoList,
 }
 
 // What stands at `at`, among the bytes up to `end`. No item stands in a run that is not there.
-pub fn item_at(bytes: &[u8], at: usize, end: usize) -> Front
+pub fn item_at(bytes: &[u8], at: usize, end: usize) -> Option<Front>
     ensures { result ≡ item_at bytes.now at end }
 {
-    if at > end {
-        return Front::NoItem;
-    }
-    if end > bytes.len() {
-        return Front::NoItem;
-    }
-    front_at(bytes, at, end)
+    front_of(bytes.get(at..end)?, at)
 }
 
-// Whether the bytes are items, none deeper than eight. `ends` are the ends of the open structures, that of the bytes first; each turn
-// closes the innermost one or takes an item.
+// Whether the bytes are items, none deeper than eight.
 pub fn sound(bytes: &[u8]) -> bool
     ensures { result ≡ is_some (read_items bytes.now) }
 {
-    let mut ends = [0usize; 1 + DEEPEST];
-    ends[0] = bytes.len();
-    let mut levels = 1;
-    let mut at = 0;
-    while levels > 0 {
-        let top = levels - 1;
-        let end = ends[top];
-        if at == end {
-            levels = top;
-            continue;
-        }
-        if levels > DEEPEST {
-            return false;
-        }
-        let found = front_at(bytes, at, end);
-        match found {
-            Front::NoItem => {
-                return false;
-            }
-            Front::Value {
-                tag: _,
-                kind: _,
-                length: _,
-                next,
-            } => {
-                at = next;
-                continue;
-            }
-            Front::Structure { tag: _, length } => {
-                at += ITEM_HEAD;
-                ends[levels] = at + length;
-                levels += 1;
-            }
+    let mut walk = Walk::new(bytes);
+    loop {
+        match walk.next_item() {
+            Ok(Some(_)) => {}
+            Ok(None) => return true,
+            Err(_) => return false,
         }
     }
-    true
 }
 
-// The items of the bytes as a list, laid at the front of the places. What is refused leaves them as they were.
-pub fn read(bytes: &[u8], places: &mut [u32]) -> ListRead
+// The items of the bytes as a list, laid at the front of the places; how many they are. What is refused leaves the places as they were.
+pub fn read(bytes: &[u8], places: &mut [u32]) -> Result<usize, ReadError>
     ensures { record { result = result; places = places.new } ≡ read_list bytes.now places.old }
 {
     if places.len() < ITEM_PLACES * ITEMS_MOST {
-        return ListRead::NoPlaces;
+        return Err(ReadError::NoPlaces);
     }
-    if bytes.len() > MESSAGE_MOST {
-        return ListRead::NoItems;
+    if bytes.len() > MESSAGE_MOST || !sound(bytes) {
+        return Err(ReadError::NoItems);
     }
-    if !sound(bytes) {
-        return ListRead::NoItems;
-    }
-    let count = list(bytes, places);
-    ListRead::Listed(count)
+    list(bytes, places)
 }
 
-// The encoding of the list of the first `count` items, whose values stand among `values`, at the front of the output. What is refused
-// leaves the output as it was.
-pub fn write(items: &[u32], count: usize, values: &[u8], out: &mut [u8]) -> Written
+// The encoding of the list of the first `count` items, whose values stand among `values`, at the front of the output; how many bytes it
+// is. What is refused leaves the output as it was.
+pub fn write(
+    items: &[u32],
+    count: usize,
+    values: &[u8],
+    out: &mut [u8],
+) -> Result<usize, WriteError>
     ensures { record { result = result; out = out.new } ≡ write_list items.now count values.now out.old }
 {
-    if count > ITEMS_MOST {
-        return Written::NoList;
-    }
-    if items.len() < ITEM_PLACES * count {
-        return Written::NoList;
-    }
-    let n = total_room(items, count);
+    let items = first_items(items, count).ok_or(WriteError::NoList)?;
+    let n = total_room(items);
     if out.len() < n {
-        return Written::Short;
+        return Err(WriteError::Short);
     }
-    if !good_list(items, count, values.len()) {
-        return Written::NoList;
+    if !good_list(items, values.len()) || n >= LENGTHS {
+        return Err(WriteError::NoList);
     }
-    if n >= LENGTHS {
-        return Written::NoList;
-    }
-    let n = lay(out, items, count, values);
-    Written::Bytes(n)
+    Ok(lay(out, items, values))
 }

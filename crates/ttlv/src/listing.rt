@@ -1,62 +1,20 @@
 // Items as numbers in lent places, in the order of their bytes.
-ghost use Rattle.std.specs.Prelude.{◌≡◌, ◌++◌, drop};
-ghost use Rattle.ttlv.specs.ItemList.{item};
-ghost use Rattle.ttlv.specs.Listing.{item_places, numbers_of};
-ghost use Rattle.ttlv.specs.Places.{PlacesFor, Listable, Laid};
+ghost use Rattle.ttlv.specs.Places.{Listable, Laid};
 
-use crate::reading::{STRUCTURE, front_at};
-use crate::{DEEPEST, Front, ITEM_HEAD, ITEM_PLACES};
+use crate::walk::Walk;
+use crate::{ITEM_PLACES, ReadError};
 
-// One item, at the front.
-fn put(places: &mut [u32], tag: u32, kind: u8, depth: usize, start: usize, length: usize)
-    requires { PlacesFor depth start length places.old }
-    ensures { places.new ≡ numbers_of (item tag kind depth start length) ++ drop item_places places.old }
-{
-    places[0] = tag;
-    places[1] = kind as u32;
-    places[2] = depth as u32;
-    places[3] = start as u32;
-    places[4] = length as u32;
-}
-
-// Lays the items of sound bytes, and returns how many they are. The turns are those of `sound`; here the bytes are always items.
-pub(crate) fn list(bytes: &[u8], places: &mut [u32]) -> usize
+// Lays the items of sound bytes, and returns how many they are.
+pub(crate) fn list(bytes: &[u8], places: &mut [u32]) -> Result<usize, ReadError>
     requires { Listable bytes.now places.old }
     ensures { Laid bytes.now places.old result places.new }
 {
-    let mut ends = [bytes.len(); 1 + DEEPEST];
-    let mut levels = 1;
-    let mut at = 0;
+    let mut walk = Walk::new(bytes);
     let mut count = 0;
-    while levels > 0 {
-        let end = ends[levels - 1];
-        if at == end {
-            levels -= 1;
-            continue;
-        }
-        let found = front_at(bytes, at, end);
+    while let Some(found) = walk.next_item()? {
         let from = ITEM_PLACES * count;
-        let start = at + ITEM_HEAD;
+        places[from..from + ITEM_PLACES].copy_from_slice(&found.numbers());
         count += 1;
-        match found {
-            Front::NoItem => return count,
-            Front::Value {
-                tag,
-                kind,
-                length,
-                next,
-            } => {
-                put(&mut places[from..], tag, kind, levels, start, length);
-                at = next;
-                continue;
-            }
-            Front::Structure { tag, length } => {
-                put(&mut places[from..], tag, STRUCTURE, levels, start, length);
-                ends[levels] = start + length;
-                levels += 1;
-                at = start;
-            }
-        }
     }
-    count
+    Ok(count)
 }

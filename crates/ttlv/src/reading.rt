@@ -1,87 +1,77 @@
 // The item at the front of a run of bytes.
-ghost use Rattle.std.specs.Prelude.{◌≡◌, [], ◌∷◌, ◌+◌, ◌^◌, ◌≤◌, ◌<◌, length};
-ghost use Rattle.rules.specs.Fields.{big_endian};
-ghost use Rattle.rules.specs.Ttlv.{item_head, is_value};
-ghost use Rattle.ttlv.specs.Reading.{Headed, Fronted};
+ghost use Rattle.std.specs.Prelude.{◌≡◌, ◌+◌, ◌^◌, ◌<◌, length};
+ghost use Rattle.rules.specs.Ttlv.{is_value, front};
+ghost use Rattle.ttlv.specs.Reading.{Headed, placed};
 
-use crate::{Front, Head, ITEM_HEAD};
+use crate::{Front, ITEM_HEAD};
 
-pub(crate) const STRUCTURE: u8 = 0x01;
+// (d) Types stay numbers: `Front` and `Item` hold any number, and an enum would be made of it only to be compared once.
+pub(crate) const STRUCTURE: u32 = 0x01;
 
-const INTEGER: u8 = 0x02;
+const INTEGER: u32 = 0x02;
 
-const ENUMERATION: u8 = 0x05;
+const ENUMERATION: u32 = 0x05;
 
-const TEXT: u8 = 0x07;
+const TEXT: u32 = 0x07;
 
-const BYTE_STRING: u8 = 0x08;
+const BYTE_STRING: u32 = 0x08;
 
-fn three(a: u8, b: u8, c: u8) -> u32
-    ensures { result ≡ big_endian (a ∷ b ∷ c ∷ []) }
-{
-    a as u32 * 65536 + b as u32 * 256 + c as u32
+// A value is padded to a multiple of so many bytes.
+pub(crate) const PADDED_TO: usize = 8;
+
+// The head of an item.
+#[derive(Clone, Copy)]
+struct Head {
+    tag: u32,
+    kind: u8,
+    length: usize,
 }
 
-fn four(a: u8, b: u8, c: u8, d: u8) -> usize
-    ensures { (result ≡ big_endian (a ∷ b ∷ c ∷ d ∷ [])) × (result < 2 ^ 32) }
-{
-    a as usize * 16777216 + b as usize * 65536 + c as usize * 256 + d as usize
-}
+impl From<[u8; ITEM_HEAD]> for Head {
+    ghost from_gives = { λ bytes head. Headed bytes head };
 
-fn head_at(bytes: &[u8], at: usize) -> Head
-    requires { at + item_head ≤ length bytes.now }
-    ensures { Headed bytes.now at result }
-{
-    let tag = three(bytes[at], bytes[at + 1], bytes[at + 2]);
-    let kind = bytes[at + 3];
-    let length = four(bytes[at + 4], bytes[at + 5], bytes[at + 6], bytes[at + 7]);
-    Head { tag, kind, length }
+    fn from(bytes: [u8; ITEM_HEAD]) -> Head {
+        let [high, middle, low, kind, a, b, c, d] = bytes;
+        Head {
+            tag: u32::from_be_bytes([0, high, middle, low]),
+            kind,
+            length: u32::from_be_bytes([a, b, c, d]) as usize,
+        }
+    }
 }
 
 // Whether a value of this type may have this length.
-pub(crate) fn is_value(kind: u8, n: usize) -> bool
+#[tactic(auto, unfolding(rules::specs::Ttlv::is_value))]
+pub(crate) fn is_value(kind: u32, n: usize) -> bool
     ensures { result ≡ is_value kind n }
 {
-    ((kind == INTEGER) | (kind == ENUMERATION)) & (n == 4)
-        | ((kind == TEXT) | (kind == BYTE_STRING))
+    match kind {
+        INTEGER | ENUMERATION => n == 4,
+        TEXT | BYTE_STRING => true,
+        _ => false,
+    }
 }
 
-// What stands at `at`, among the bytes up to `end`.
-pub(crate) fn front_at(bytes: &[u8], at: usize, end: usize) -> Front
-    requires { (at ≤ end) × (end ≤ length bytes.now) }
-    ensures { Fronted bytes.now at end result }
+// What stands at the front of a run of bytes, which starts at `at`.
+pub(crate) fn front_of(run: &[u8], at: usize) -> Option<Front>
+    requires { at + length run.now < 2 ^ 64 }
+    ensures { result ≡ placed at (front run.now) }
 {
-    if end - at < ITEM_HEAD {
-        return Front::NoItem;
+    let (head, behind) = run.split_first_chunk()?;
+    let Head { tag, kind, length } = Head::from(*head);
+    if u32::from(kind) == STRUCTURE {
+        return (length <= behind.len()).then_some(Front::Structure { tag, length });
     }
-    let start = at + ITEM_HEAD;
-    let room = end - start;
-    let head = head_at(bytes, at);
-    let tag = head.tag;
-    let kind = head.kind;
-    let length = head.length;
-    if kind == STRUCTURE {
-        if length > room {
-            return Front::NoItem;
-        }
-        return Front::Structure { tag, length };
+    let whole = length.next_multiple_of(PADDED_TO);
+    let padding = behind.get(length..whole)?;
+    if !is_value(u32::from(kind), length) || !cells::all_zero(padding) {
+        return None;
     }
-    if !is_value(kind, length) {
-        return Front::NoItem;
-    }
-    let whole = (length + 7) / 8 * 8;
-    if whole > room {
-        return Front::NoItem;
-    }
-    let from = start + length;
-    let next = start + whole;
-    if !cells::all_zero(&bytes[from..next]) {
-        return Front::NoItem;
-    }
-    Front::Value {
+    let next = at + ITEM_HEAD + whole;
+    Some(Front::Value {
         tag,
         kind,
         length,
         next,
-    }
+    })
 }

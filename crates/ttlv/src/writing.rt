@@ -1,141 +1,141 @@
 // The bytes of an item list that is lent as numbers.
-ghost use Rattle.std.specs.Prelude.{◌≡◌, ◌++◌, ◌+◌, ◌*◌, ◌≤◌, ◌<◌, length, drop};
+ghost use Rattle.std.specs.Prelude.{◌≡◌, ◌∷◌, ◌++◌, ◌+◌, ◌*◌, ◌^◌, ◌≤◌, ◌<◌, length, drop, leb, position, MatchOption};
 ghost use Rattle.rules.specs.Ttlv.{deepest, item_head, to_eight, head, is_value};
-ghost use Rattle.ttlv.specs.Listing.{item_places, items_in};
+ghost use Rattle.ttlv.specs.Listing.{items_most, first_item};
 ghost use Rattle.ttlv.specs.Writing.{deeper, good_item, good_from, most_behind, room_of, room_for};
-ghost use Rattle.ttlv.specs.Pieces.{item_no, written_no, Enough, Member, Room, piece_of, Inside, value_put, Layable, LaidOut};
+ghost use Rattle.ttlv.specs.Pieces.{items_of, Absent, FirstItems, with_length, Room, piece_of, Inside, value_put, Layable, LaidOut};
 
-use crate::reading::{STRUCTURE, is_value};
-use crate::{DEEPEST, ITEM_HEAD, ITEM_PLACES, Item};
+use crate::reading::{PADDED_TO, STRUCTURE, is_value};
+use crate::{DEEPEST, ITEM_HEAD, ITEM_PLACES, ITEMS_MOST, Item, Numbers};
 
 const TAGS: u32 = 0x1000000;
 
 const DEEPEST_ITEM: u32 = DEEPEST as u32;
 
-const STRUCTURE_KIND: u32 = STRUCTURE as u32;
-
-// Item i.
-fn item_in(items: &[u32], i: usize) -> Item
-    requires { item_places * i + item_places ≤ length items.now }
-    ensures { result ≡ item_no i items.now }
+// The numbers of the first `count` items, if there are so many, and not too many for a message.
+pub(crate) fn first_items(numbers: &[u32], count: usize) -> Option<&[Numbers]>
+    ensures { MatchOption result (Absent count numbers.now) (λ items. FirstItems count numbers.now items.now) }
 {
-    let at = ITEM_PLACES * i;
-    Item {
-        tag: items[at],
-        kind: items[at + 1],
-        depth: items[at + 2],
-        start: items[at + 3],
-        length: items[at + 4],
+    if count > ITEMS_MOST {
+        return None;
     }
+    let (items, _) = numbers.get(..ITEM_PLACES * count)?.as_chunks();
+    Some(items)
 }
 
-// The bytes that an item takes.
-fn room(item: Item) -> usize
-    ensures { Room item result }
-{
-    if item.kind == STRUCTURE_KIND {
-        return ITEM_HEAD;
+impl Item {
+    // The bytes that it takes.
+    fn room(self) -> usize
+        ensures { Room self result }
+    {
+        if self.kind == STRUCTURE {
+            return ITEM_HEAD;
+        }
+        ITEM_HEAD + (self.length as usize).next_multiple_of(PADDED_TO)
     }
-    ITEM_HEAD + (item.length as usize + 7) / 8 * 8
+
+    // Whether it may stand at depth `most` or less, with its value among n bytes.
+    #[tactic(auto, unfolding(crate::specs::Writing::good_item))]
+    fn is_good(self, n: usize, most: u32) -> bool
+        ensures { result ≡ good_item n most self }
+    {
+        let end = self.start as usize + self.length as usize;
+        self.tag < TAGS
+            && 1 <= self.depth
+            && self.depth <= most
+            && self.depth <= DEEPEST_ITEM
+            && (self.kind == STRUCTURE || is_value(self.kind, self.length as usize) && end <= n)
+    }
+
+    // How deep the next item may stand.
+    fn most_behind(self) -> u32
+        requires { self.depth ≤ deepest }
+        ensures { result ≡ most_behind self }
+    {
+        if self.kind == STRUCTURE {
+            return self.depth + 1;
+        }
+        self.depth
+    }
+
+    // As it is written, with the items behind it: a structure has the length of its members.
+    fn as_written(self, behind: &[Numbers]) -> Item
+        requires few { length behind.now ≤ items_most }
+        requires fits { room_for (items_of behind.now) < 2 ^ 32 }
+        ensures { result ≡ with_length self (room_for (deeper self.depth (items_of behind.now))) }
+    {
+        if self.kind != STRUCTURE {
+            return self;
+        }
+        let length = total_room(members(behind, self.depth)) as u32;
+        Item { length, ..self }
+    }
+
+    fn head(self) -> [u8; ITEM_HEAD]
+        requires { self.kind < 256 }
+        ensures { result ≡ head self.tag self.kind self.length }
+    {
+        let [_, high, middle, low] = self.tag.to_be_bytes();
+        let [a, b, c, d] = self.length.to_be_bytes();
+        [high, middle, low, self.kind as u8, a, b, c, d]
+    }
+
+    // Its bytes, at the front.
+    fn put(self, out: &mut [u8], values: &[u8])
+        requires { (room_of self ≤ length out.old) × Inside values.now self }
+        ensures { out.new ≡ piece_of values.now self ++ drop (room_of self) out.old }
+    {
+        out[..ITEM_HEAD].copy_from_slice(&self.head());
+        if self.kind == STRUCTURE {
+            return;
+        }
+        let start = self.start as usize;
+        let stop = start + self.length as usize;
+        put_value(out, &values[start..stop]);
+    }
 }
 
 // The bytes of all items.
-pub(crate) fn total_room(items: &[u32], count: usize) -> usize
-    requires { Enough count items.now }
-    ensures { result ≡ room_for (items_in count items.now) }
+pub(crate) fn total_room(items: &[Numbers]) -> usize
+    requires { length items.now ≤ items_most }
+    ensures { result ≡ room_for (items_of items.now) }
 {
-    let mut sum = 0;
-    let mut i = 0;
-    while i < count {
-        let item = item_in(items, i);
-        sum += room(item);
-        i += 1;
-    }
-    sum
+    items
+        .iter()
+        .map(|numbers| Item::from(*numbers).room())
+        .sum()
 }
 
-// The bytes of the items from `from` on that are deeper than `depth`.
-fn members_room(items: &[u32], count: usize, from: usize, depth: u32) -> usize
-    requires { Enough count items.now × (from ≤ count) }
-    ensures { result ≡ room_for (deeper depth (drop from (items_in count items.now))) }
+// The place of the first item that is not deeper than `depth`.
+fn first_not_deeper(items: &[Numbers], depth: u32) -> Option<usize>
+    ensures { result ≡ position (λ ns. leb (first_item ns).depth depth) items.now }
 {
-    let mut sum = 0;
-    let mut i = from;
-    while i < count {
-        let item = item_in(items, i);
-        if item.depth <= depth {
-            return sum;
-        }
-        sum += room(item);
-        i += 1;
-    }
-    sum
+    items
+        .iter()
+        .position(|numbers| Item::from(*numbers).depth <= depth)
 }
 
-fn may_be_value(kind: u32, n: usize) -> bool
-    ensures { result ≡ is_value kind n }
+// The items in front that are deeper than `depth`.
+fn members(items: &[Numbers], depth: u32) -> &[Numbers]
+    ensures { items_of result.now ≡ deeper depth (items_of items.now) }
 {
-    if kind > 255 {
-        return false;
-    }
-    is_value(kind as u8, n)
-}
-
-// Whether an item may stand at depth `most` or less, with its value among n bytes.
-fn good_item(item: Item, n: usize, most: u32) -> bool
-    ensures { result ≡ good_item n most item }
-{
-    (item.tag < TAGS)
-        & (1 <= item.depth)
-        & (item.depth <= most)
-        & (item.depth <= DEEPEST_ITEM)
-        & ((item.kind == STRUCTURE_KIND)
-            | (may_be_value(item.kind, item.length as usize)
-                & (item.start as usize + item.length as usize <= n)))
-}
-
-// How deep the next item may stand.
-fn most_behind(item: Item) -> u32
-    requires { item.depth ≤ deepest }
-    ensures { result ≡ most_behind item }
-{
-    if item.kind == STRUCTURE_KIND {
-        return item.depth + 1;
-    }
-    item.depth
+    let count = first_not_deeper(items, depth).unwrap_or(items.len());
+    &items[..count]
 }
 
 // Whether each item may stand where it stands.
-pub(crate) fn good_list(items: &[u32], count: usize, n: usize) -> bool
-    requires { Enough count items.now }
-    ensures { result ≡ good_from n 1 (items_in count items.now) }
+pub(crate) fn good_list(items: &[Numbers], n: usize) -> bool
+    ensures { result ≡ good_from n 1 (items_of items.now) }
 {
-    let mut most: u32 = 1;
-    let mut i = 0;
-    while i < count {
-        let item = item_in(items, i);
-        if !good_item(item, n, most) {
+    let mut most = 1;
+    for numbers in items {
+        let item = Item::from(*numbers);
+        if !item.is_good(n, most) {
             return false;
         }
-        most = most_behind(item);
-        i += 1;
+        most = item.most_behind();
     }
     true
-}
-
-// The head of an item, at the front.
-fn put_head(out: &mut [u8], tag: u32, kind: u32, n: u32)
-    requires { (item_head ≤ length out.old) × (kind < 256) }
-    ensures { out.new ≡ head tag kind n ++ drop item_head out.old }
-{
-    out[0] = (tag / 65536 % 256) as u8;
-    out[1] = (tag / 256 % 256) as u8;
-    out[2] = (tag % 256) as u8;
-    out[3] = kind as u8;
-    out[4] = (n / 16777216 % 256) as u8;
-    out[5] = (n / 65536 % 256) as u8;
-    out[6] = (n / 256 % 256) as u8;
-    out[7] = (n % 256) as u8;
 }
 
 // A value and its padding, behind the head's place.
@@ -143,58 +143,24 @@ fn put_value(out: &mut [u8], value: &[u8])
     requires { item_head + to_eight (length value.now) ≤ length out.old }
     ensures { out.new ≡ value_put value.now out.old }
 {
-    let n = value.len();
-    let to = ITEM_HEAD + n;
-    let end = ITEM_HEAD + (n + 7) / 8 * 8;
-    cells::copy(&mut out[ITEM_HEAD..to], value);
-    cells::fill_zero(&mut out[to..end]);
-}
-
-// One item's bytes, at the front.
-fn put_item(out: &mut [u8], item: Item, values: &[u8])
-    requires { (room_of item ≤ length out.old) × Inside values.now item }
-    ensures { out.new ≡ piece_of values.now item ++ drop (room_of item) out.old }
-{
-    put_head(out, item.tag, item.kind, item.length);
-    if item.kind == STRUCTURE_KIND {
-        return;
-    }
-    let start = item.start as usize;
-    let stop = start + item.length as usize;
-    put_value(out, &values[start..stop]);
-}
-
-// Item i as it is written: a structure has the length of its members.
-fn as_written(items: &[u32], count: usize, i: usize) -> Item
-    requires { Member count i items.now }
-    ensures { result ≡ written_no count i items.now }
-{
-    let item = item_in(items, i);
-    if item.kind != STRUCTURE_KIND {
-        return item;
-    }
-    let n = members_room(items, count, i + 1, item.depth);
-    Item {
-        tag: item.tag,
-        kind: STRUCTURE_KIND,
-        depth: item.depth,
-        start: item.start,
-        length: n as u32,
-    }
+    let to = ITEM_HEAD + value.len();
+    let end = ITEM_HEAD + value.len().next_multiple_of(PADDED_TO);
+    out[ITEM_HEAD..to].copy_from_slice(value);
+    out[to..end].fill(0);
 }
 
 // The items, one after another, at the front; how many bytes they take.
-pub(crate) fn lay(out: &mut [u8], items: &[u32], count: usize, values: &[u8]) -> usize
-    requires { Layable items.now count values.now out.old }
-    ensures { LaidOut (items_in count items.now) values.now out.old result out.new }
+pub(crate) fn lay(out: &mut [u8], items: &[Numbers], values: &[u8]) -> usize
+    requires { Layable (items_of items.now) values.now out.old }
+    ensures { LaidOut (items_of items.now) values.now out.old result out.new }
 {
     let mut at = 0;
-    let mut i = 0;
-    while i < count {
-        let item = as_written(items, count, i);
-        put_item(&mut out[at..], item, values);
-        at += room(item);
-        i += 1;
+    let mut left = items;
+    while let [numbers, behind @ ..] = left {
+        let item = Item::from(*numbers).as_written(behind);
+        item.put(&mut out[at..], values);
+        at += item.room();
+        left = behind;
     }
     at
 }

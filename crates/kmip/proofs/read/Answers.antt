@@ -1,76 +1,38 @@
 -- `read` meets its contract: each refusal in its order, or both parts copied one behind the other.
 -- Assumes nothing.
-use borrow.Author.Tests.{not-true, not-false}
+use mathlib.Core.Path.{refl}
 use native.Mathlib.Omega.{arith}
-use mathlib.Core.Path.{sym}
-use Prim.Native.Nat.{◌+◌, ◌≤◌}
+use Prim.Native.Nat.{◌+◌}
 use lib.ListN.{length}
-use lib.Seq.{length-take-le}
-use Rattle.rules.specs.Numbers.{uid_most, key_size}
-use Rattle.kmip.proofs.ReadingLaws.{no_room, no_load, bad_uid, brings, few_bytes, uid_inside, key_inside}
+use Rattle.std.proofs.lemmas.Result.{err_from_is_err_and}
+use Rattle.cells.proofs.CellsLaws.{push}
+use Rattle.rules.specs.Numbers.{key_size}
+use Rattle.kmip.proofs.ReadingLaws.{bad_length, good_length, nothing_found, something_found, no_room, no_load, bad_uid, brings}
 use Rattle.kmip.proofs.read.Goals as goal
 
 pub returns-then-out : goal.returns-then-out
 returns-then-out c =
     let s = c.args in
-    sym (no_room s.ns s.tag s.bytes.now s.out.now c.if-out.true)
+    no_room s.ns s.tag s.bytes.now s.out.now c.if-out.true
 
-pub returns-then-not-l : goal.returns-then-not-l
-returns-then-not-l c =
+pub returns-in_err-uid : goal.returns-in_err-uid
+returns-in_err-uid c =
     let s = c.args in
-    sym (no_load s.ns s.tag s.bytes.now s.out.now _ c.request-l.ensures c.if-out.false (not-true _ c.if-not-l.true))
+    let nothing = nothing_found c.request.result _ _ c.in_err-uid.ensures.value in
+    let passed_on = err_from_is_err_and c.from_residual.result c.from_residual.ensures.1 in
+    rw (passed_on.1, passed_on.2, nothing.1) (no_load s.ns s.tag s.bytes.now s.out.now c.if-out.false c.request.result c.request.ensures nothing.0)
 
-pub returns-then-n : goal.returns-then-n
-returns-then-n c =
+pub returns-then-n-eq0 : goal.returns-then-n-eq0
+returns-then-n-eq0 c =
     let s = c.args in
-    sym (bad_uid s.ns s.tag s.bytes.now s.out.now _ c.request-l.ensures c.if-out.false (not-false _ c.if-not-l.false) c.if-n.true)
-
-pub overflow_add-uid_end : goal.overflow_add-uid_end
-overflow_add-uid_end c =
-    let uid_there : c.request-l.result.uid + c.request-l.result.length ≤ length c.args.bytes.now = let s = c.args in
-    uid_inside s.ns s.tag s.bytes.now s.out.now _ c.request-l.ensures c.if-out.false (not-false _ c.if-not-l.false) in
-    omega (arith, uid_there)
-
-pub overflow_add-key_end : goal.overflow_add-key_end
-overflow_add-key_end c =
-    let key_there : c.request-l.result.key + key_size ≤ length c.args.bytes.now = let s = c.args in
-    key_inside s.ns s.tag s.bytes.now s.out.now _ c.request-l.ensures c.if-out.false (not-false _ c.if-not-l.false) in
-    omega (arith, key_there)
-
-pub overflow_add-end : goal.overflow_add-end
-overflow_add-end c =
-    let few : c.request-l.result.length ≤ uid_most = few_bytes c.request-l.result.length c.if-n.false in
-    omega (arith, few)
-
-pub slice_bounds-copy-end : goal.slice_bounds-copy-end
-slice_bounds-copy-end c =
-    let few : c.request-l.result.length ≤ uid_most = few_bytes c.request-l.result.length c.if-n.false in
-    omega (arith, few)
-
-pub slice_bounds-copy-end-2 : goal.slice_bounds-copy-end-2
-slice_bounds-copy-end-2 c =
-    let few : c.request-l.result.length ≤ uid_most = few_bytes c.request-l.result.length c.if-n.false in
-    sym (length-take-le c.request-l.result.length c.args.out.now (omega (arith, few)))
-
-pub slice_bounds-copy-end-3 : goal.slice_bounds-copy-end-3
-slice_bounds-copy-end-3 c =
-    let uid_there : c.request-l.result.uid + c.request-l.result.length ≤ length c.args.bytes.now = let s = c.args in
-    uid_inside s.ns s.tag s.bytes.now s.out.now _ c.request-l.ensures c.if-out.false (not-false _ c.if-not-l.false) in
-    omega (arith, uid_there)
-
-pub slice_bounds-copy-end-4 : goal.slice_bounds-copy-end-4
-slice_bounds-copy-end-4 c =
-    let few : c.request-l.result.length ≤ uid_most = few_bytes c.request-l.result.length c.if-n.false in
-    omega (arith, few)
-
-pub slice_bounds-copy-end-5 : goal.slice_bounds-copy-end-5
-slice_bounds-copy-end-5 c =
-    let key_there : c.request-l.result.key + key_size ≤ length c.args.bytes.now = let s = c.args in
-    key_inside s.ns s.tag s.bytes.now s.out.now _ c.request-l.ensures c.if-out.false (not-false _ c.if-not-l.false) in
-    omega (arith, key_there)
+    bad_uid s.ns s.tag s.bytes.now s.out.now c.if-out.false c.request.result c.request.ensures c.in_ok-uid.field-0
+    (something_found c.request.result _ _ c.in_ok-uid.ensures.value) (bad_length _ c.then-n-eq0.either)
 
 pub returns : goal.returns
 returns c =
     let s = c.args in
-    brings s.ns s.tag s.bytes.now s.out.now _ c.request-l.ensures c.if-out.false (not-false _ c.if-not-l.false) c.if-n.false
-    c.copy.ensures c.copy-2.ensures
+    let l = c.in_ok-uid.field-0 in
+    let n = length l.uid.now in
+    brings s.ns s.tag s.bytes.now s.out.now c.if-out.false c.request.result c.request.ensures l
+    (something_found c.request.result _ _ c.in_ok-uid.ensures.value) (good_length n c.if-n-eq0.false c.if-n-gt-UID_MOST.false) _
+    (rw (c.copy_from_slice.ensures.after, c.copy_from_slice-2.ensures.after) (push l.uid.now s.out.now l.key.now n (n + key_size) refl (omega arith)))

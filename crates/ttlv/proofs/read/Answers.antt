@@ -3,6 +3,8 @@
 use mathlib.Core.Path.{sym, ◌∙◌}
 use Rattle.ttlv.proofs.ListingLaws.{read_few, read_long, read_unsound, read_laid}
 use Rattle.ttlv.proofs.read.Goals as goal
+use Rattle.ttlv.proofs.read.Goals.{then-bytes-gt-MESSAGE_MOST-via-then-bytes-gt-MESSAGE_MOST}
+use Rattle.ttlv.proofs.read.Goals.{then-bytes-gt-MESSAGE_MOST-via-else-bytes-gt-MESSAGE_MOST+then-not-sound}
 
 pub returns-then-places : goal.returns-then-places
 returns-then-places c =
@@ -12,18 +14,18 @@ returns-then-places c =
 pub returns-then-bytes-gt-MESSAGE_MOST : goal.returns-then-bytes-gt-MESSAGE_MOST
 returns-then-bytes-gt-MESSAGE_MOST c =
     let s = c.args in
-    read_long s.bytes.now s.places.now c.if-places.false c.if-bytes-gt-MESSAGE_MOST.true
+    let enough = c.if-places.false in
+    elim c.then-bytes-gt-MESSAGE_MOST.branch [
+      | then-bytes-gt-MESSAGE_MOST-via-then-bytes-gt-MESSAGE_MOST w ↦ read_long s.bytes.now s.places.now enough w.if-bytes-gt-MESSAGE_MOST.true
+      | then-bytes-gt-MESSAGE_MOST-via-else-bytes-gt-MESSAGE_MOST+then-not-sound w ↦
+          read_unsound s.bytes.now s.places.now enough w.if-bytes-gt-MESSAGE_MOST.false (sym w.sound.ensures ∙ w.if-not-sound.true)
+    ]
 
-pub returns-then-not-sound : goal.returns-then-not-sound
-returns-then-not-sound c =
-    let s = c.args in
-    read_unsound s.bytes.now s.places.now c.if-places.false c.if-bytes-gt-MESSAGE_MOST.false (sym c.sound.ensures ∙ c.if-not-sound.true)
-
-pub list-count-requires : goal.list-count-requires
-list-count-requires c =
+pub list-requires : goal.list-requires
+list-requires c =
     record { sound = sym c.sound.ensures ∙ c.if-not-sound.false; short = c.if-bytes-gt-MESSAGE_MOST.false; enough = c.if-places.false }
 
 pub returns : goal.returns
 returns c =
     let s = c.args in
-    read_laid s.bytes.now s.places.now c.if-places.false c.if-bytes-gt-MESSAGE_MOST.false c.list-count.result c.list-count.new.places c.list-count.ensures
+    read_laid s.bytes.now s.places.now c.if-places.false c.if-bytes-gt-MESSAGE_MOST.false c.list.result c.list.new.places c.list.ensures

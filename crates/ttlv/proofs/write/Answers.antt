@@ -2,65 +2,71 @@
 -- Assumes nothing.
 use native.Mathlib.Omega.{arith}
 use mathlib.Core.Path.{◌≡◌, sym, ◌∙◌}
-use mathlib.Core.Bool.{true}
 use Prim.Native.Nat.{◌≤◌}
 use lib.ListN.{length}
-use Rattle.ttlv.specs.Listing.{items_in}
-use Rattle.ttlv.specs.Writing.{good_from, room_for}
+use Rattle.std.proofs.lemmas.Option.{MatchOption-at_some, MatchOption-at_none}
+use Rattle.std.proofs.lemmas.Result.{err_from_is_err_and}
+use Rattle.ttlv.specs.Pieces.{items_of}
+use Rattle.ttlv.specs.Writing.{room_for}
+use Rattle.ttlv.specs.declared.WriteError.TheVariants.{NoList}
+use Rattle.ttlv.proofs.ItemsInLaws.{few_items}
 use Rattle.ttlv.proofs.GoodLaws.{good_from_lem, good_inside}
-use Rattle.ttlv.proofs.WroteLaws.{wrote_many, wrote_absent, wrote_short, wrote_bad, wrote_long, wrote_all}
+use Rattle.ttlv.proofs.WroteLaws.{wrote_absent, wrote_short, wrote_bad, wrote_long, wrote_all}
 use Rattle.ttlv.proofs.write.Goals as goal
+use Rattle.ttlv.proofs.write.Goals.{then-not-good_list-via-then-not-good_list, then-not-good_list-via-else-not-good_list+then-n-ge-LENGTHS}
 
-pub returns-then-count-gt-ITEMS_MOST : goal.returns-then-count-gt-ITEMS_MOST
-returns-then-count-gt-ITEMS_MOST c =
+pub returns-in_err-items : goal.returns-in_err-items
+returns-in_err-items c =
     let s = c.args in
-    wrote_many s.items.now s.count s.values.now s.out.now c.if-count-gt-ITEMS_MOST.true
-
-pub returns-then-items-count : goal.returns-then-items-count
-returns-then-items-count c =
-    let s = c.args in
-    wrote_absent s.items.now s.count s.values.now s.out.now c.if-count-gt-ITEMS_MOST.false c.if-items-count.true
+    let none = c.in_err-items.ensures.ok_part in
+    let absent = MatchOption-at_none _ _ none c.first_items.ensures in
+    let e = rw none at c.in_err-items.ensures.value in
+    let same : c.in_err-items.field-0.0 ≡ NoList = cc e in
+    let p = err_from_is_err_and c.from_residual.result c.from_residual.ensures.1 in
+    rw (p.1, p.2, same) (wrote_absent s.items.now s.count s.values.now s.out.now absent)
 
 pub returns-then-out-n : goal.returns-then-out-n
 returns-then-out-n c =
     let s = c.args in
+    let there = MatchOption-at_some _ _ c.in_ok-items.items c.in_ok-items.ensures.ok_part c.first_items.ensures in
     let n = c.total_room-n.ensures in
-    wrote_short s.items.now s.count s.values.now s.out.now c.if-count-gt-ITEMS_MOST.false c.if-items-count.false (omega arith)
+    wrote_short s.items.now s.count s.values.now s.out.now _ there (omega arith)
 
 pub returns-then-not-good_list : goal.returns-then-not-good_list
 returns-then-not-good_list c =
     let s = c.args in
-    let room : room_for (items_in s.count s.items.now) ≤ length s.out.now = omega (arith, c.total_room-n.ensures) in
-    let no = sym c.good_list.ensures ∙ c.if-not-good_list.true in
-    wrote_bad s.items.now s.count s.values.now s.out.now c.if-count-gt-ITEMS_MOST.false c.if-items-count.false room no
-
-pub returns-then-n-ge-LENGTHS : goal.returns-then-n-ge-LENGTHS
-returns-then-n-ge-LENGTHS c =
-    let s = c.args in
-    let room : room_for (items_in s.count s.items.now) ≤ length s.out.now = omega (arith, c.total_room-n.ensures) in
-    let good = sym c.good_list.ensures ∙ c.if-not-good_list.false in
+    let arrays = c.in_ok-items.items.now in
+    let there = MatchOption-at_some _ _ c.in_ok-items.items c.in_ok-items.ensures.ok_part c.first_items.ensures in
     let n = c.total_room-n.ensures in
-    wrote_long s.items.now s.count s.values.now s.out.now c.if-count-gt-ITEMS_MOST.false c.if-items-count.false room good (omega arith)
+    let room : room_for (items_of arrays) ≤ length s.out.now = omega (arith, n) in
+    elim c.then-not-good_list.branch [
+      | then-not-good_list-via-then-not-good_list w ↦
+          wrote_bad s.items.now s.count s.values.now s.out.now arrays there room (sym c.good_list.ensures ∙ w.if-not-good_list.true)
+      | then-not-good_list-via-else-not-good_list+then-n-ge-LENGTHS w ↦
+          let good = sym c.good_list.ensures ∙ w.if-not-good_list.false in
+          wrote_long s.items.now s.count s.values.now s.out.now arrays there room good (omega arith)
+    ]
 
-pub lay-n-requires : goal.lay-n-requires
-lay-n-requires c =
+pub lay-requires : goal.lay-requires
+lay-requires c =
     let s = c.args in
-    let room : room_for (items_in s.count s.items.now) ≤ length s.out.now = omega (arith, c.total_room-n.ensures) in
-    let good = sym c.good_list.ensures ∙ c.if-not-good_list.false in
+    let is = items_of c.in_ok-items.items.now in
+    let there = MatchOption-at_some _ _ c.in_ok-items.items c.in_ok-items.ensures.ok_part c.first_items.ensures in
     let n = c.total_room-n.ensures in
-    let is = items_in s.count s.items.now in
+    let good = sym c.good_list.ensures ∙ c.if-not-good_list.false in
     record {
-      enough = record { few = c.if-count-gt-ITEMS_MOST.false; there = c.if-items-count.false };
+      few = few_items there;
       inside = good_inside s.values.now is (good_from_lem s.values.now 1 is good);
-      room = room;
+      room = omega arith;
       fits = omega arith;
     }
 
 pub returns : goal.returns
 returns c =
     let s = c.args in
-    let room : room_for (items_in s.count s.items.now) ≤ length s.out.now = omega (arith, c.total_room-n.ensures) in
-    let good = sym c.good_list.ensures ∙ c.if-not-good_list.false in
+    let arrays = c.in_ok-items.items.now in
+    let there = MatchOption-at_some _ _ c.in_ok-items.items c.in_ok-items.ensures.ok_part c.first_items.ensures in
     let n = c.total_room-n.ensures in
-    wrote_all s.items.now s.count s.values.now s.out.now c.if-count-gt-ITEMS_MOST.false c.if-items-count.false room good (omega arith)
-    c.lay-n.result c.lay-n.new.out c.lay-n.ensures
+    let room : room_for (items_of arrays) ≤ length s.out.now = omega (arith, n) in
+    let good = sym c.good_list.ensures ∙ c.if-not-good_list.false in
+    wrote_all s.items.now s.count s.values.now s.out.now arrays there room good (omega arith) c.lay.result c.lay.new.out c.lay.ensures

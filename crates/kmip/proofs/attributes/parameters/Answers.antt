@@ -1,25 +1,30 @@
 -- `parameters` meets its contract.
 -- Assumes nothing.
-use mathlib.Core.Path.{refl, sym, ap}
+use mathlib.Core.Path.{refl, sym, ◌∙◌}
+use mathlib.Core.Bool.{Bool}
 use mathlib.Core.List.{[]}
-use Rattle.cells.proofs.PredicatesLaws.{and_left}
-use Rattle.rules.specs.Ttlv.{Enumeration}
-use Rattle.rules.specs.Kmip.{from, in_order, members_of, has, ◌is_a◌with◌, is, CryptographicParameters, KeyRoleType, DEK}
-use Rattle.kmip.proofs.RowLaws.{row_structure, last_row, hit_structure}
+use Rattle.std.specs.Prelude.{Some}
+use Rattle.rules.specs.Ttlv.{Items, Enumeration}
+use Rattle.rules.specs.Kmip.{has, ◌is_a◌with◌, is, CryptographicParameters, KeyRoleType, DEK}
+use Rattle.kmip.specs.Runs.{items_of}
+use Rattle.kmip.proofs.RowLaws.{structure_missed, structure_alone, structure_gives, row_alone}
 use Rattle.kmip.proofs.attributes.parameters.Goals as goal
 
+abbrev good : Items → Bool
+good members = has (KeyRoleType is_a Enumeration with is DEK) members
+
+pub returns-in_err-parameters : goal.returns-in_err-parameters
+returns-in_err-parameters c =
+    rw c.from_residual.ensures (structure_missed CryptographicParameters good (items_of c.args.run) c.in_err-parameters.ensures [])
+
+pub returns-in_err-numbered : goal.returns-in_err-numbered
+returns-in_err-numbered c =
+    rw c.from_residual-in_err-numbered.ensures
+    (sym (structure_alone CryptographicParameters good (items_of c.args.run) _ _ c.in_ok-parameters.ensures) ∙ c.in_err-numbered.ensures [])
+
 pub returns : goal.returns
-unfolding in_order
 returns c =
-    λ items r.
-    let s = c.args in
-    let m = c.member-m.result in
-    let first = from CryptographicParameters items in
-    let sought = c.member-m.ensures.0 items r in
-    let row = row_structure s.bytes.now s.end m first sought (has (KeyRoleType is_a Enumeration with is DEK)) _ _ refl
-    (λ h. c.role.ensures h.members h.inner) in (
-      last_row s.bytes.now s.end _ _ _ row (in_order []) (λ rest. refl),
-      λ hit.
-          let h = hit_structure s.bytes.now s.end m first sought (and_left m.found c.role.result hit) in
-          rw (ap members_of (sym h.is)) at h.inner,
-    )
+    let members = items_of c.in_ok-parameters.parameters in
+    let role = row_alone (KeyRoleType is_a Enumeration with is DEK) members (Some c.in_ok-numbered.field-0) c.in_ok-numbered.ensures in
+    structure_gives CryptographicParameters good (items_of c.args.run) items_of (λ found. found) _ _ c.in_ok-parameters.ensures
+    (Some c.in_ok-parameters.parameters) (sym role, refl)

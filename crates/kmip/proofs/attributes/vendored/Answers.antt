@@ -1,26 +1,30 @@
 -- `vendored` meets its contract.
 -- Assumes nothing.
-use mathlib.Core.Path.{◌≡◌, refl, ap, ◌∙◌}
-use mathlib.Core.Bool.{not, ◌&&◌}
-use mathlib.Core.List.{[]}
-use native.Mathlib.Omega.{arith}
+use mathlib.Core.Path.{◌≡◌, sym, ap, ◌∙◌}
+use mathlib.Core.Bool.{Bool, not, ◌&&◌}
+use mathlib.Core.List.{List, []}
+use Prim.Native.Nat.{ℕ}
+use lib.Dec.{eqb}
+use lib.Pointwise.{pointwise}
+use borrow.Author.Rules.{rules}
+use borrow.Author.Tests.{tests}
 use Rattle.cells.specs.Predicates.{same}
-use Rattle.cells.proofs.PredicatesLaws.{same_part_lem}
-use Rattle.rules.specs.Ttlv.{Structure, Text}
-use Rattle.rules.specs.Kmip.{from, in_order, has, ◌is_a◌with◌, vendor_name, uid_name, AttributeName, VendorIdentification}
-use Rattle.kmip.proofs.RowLaws.{row_value, last_row}
+use Rattle.rules.specs.Ttlv.{Text}
+use Rattle.rules.specs.Kmip.{has, ◌is_a◌with◌, uid_name, AttributeName}
+use Rattle.kmip.specs.Runs.{items_of}
+use Rattle.kmip.proofs.NumberLaws.{same_bytes}
+use Rattle.kmip.proofs.RowLaws.{value_missed, value_alone, some_and}
 use Rattle.kmip.proofs.attributes.vendored.Goals as goal
 
-pub returns : goal.returns
-unfolding in_order
-returns c =
-    λ items r.
-    let s = c.args in
-    let m = c.member-name.result in
-    let named = from AttributeName items in
-    let text : Text ≡ Structure → ⊥ = λ e. omega (arith, e) in
-    let row = row_value s.bytes.now s.end Text m named (c.member-name.ensures.0 items r) text (λ name. not (same name uid_name)) _ _ refl
-    (λ h. ap not (c.reads.ensures ∙ same_part_lem m.start m.length s.bytes.now uid_name h.whole)) in
-    let named-well = last_row s.bytes.now s.end _ _ _ row (in_order []) (λ rest. refl) in
-    ap (λ b. b && (m.found && not c.reads.result)) (c.worded-known.ensures items r)
-    ∙ ap (λ b. has (VendorIdentification is_a Text with (λ name. same name vendor_name)) items && b) named-well
+abbrev other : List ℕ → Bool
+other name = not (same name uid_name)
+
+pub returns-then-worded : goal.returns-then-worded
+returns-then-worded c =
+    let items = items_of c.args.attribute in
+    some_and _ _ _ c.value.result c.is_some_and.result (has (AttributeName is_a Text with other) items) c.is_some_and.ensures c.value.ensures
+    (λ missed. value_missed AttributeName Text other items missed [])
+    (λ p tested found.
+    let told : c.is_some_and.result ≡ not (pointwise eqb p.0.now uid_name) = search (rules, tests) in
+    told ∙ ap not (same_bytes p.0.now uid_name) ∙ value_alone AttributeName Text other items _ _ found.0)
+    ∙ ap (λ b. b && has (AttributeName is_a Text with other) items) (sym c.if-worded.true ∙ c.worded.ensures)

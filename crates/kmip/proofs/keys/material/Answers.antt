@@ -1,26 +1,25 @@
 -- `material` meets its contract.
 -- Assumes nothing.
-use mathlib.Core.Path.{◌≡◌, refl}
+use mathlib.Core.Path.{sym, ap}
 use mathlib.Core.List.{[]}
-use native.Mathlib.Omega.{arith}
 use lib.ListN.{length}
 use lib.Dec.{eqb}
 use Rattle.rules.specs.Numbers.{key_size}
-use Rattle.rules.specs.Ttlv.{Structure, ByteString}
-use Rattle.rules.specs.Kmip.{from, in_order, KeyMaterial}
-use Rattle.kmip.proofs.RowLaws.{row_value, last_row}
-use Rattle.kmip.proofs.KeysLaws.{key_length, key_found}
+use Rattle.rules.specs.Ttlv.{ByteString}
+use Rattle.rules.specs.Kmip.{bytes_of, KeyMaterial}
+use Rattle.kmip.specs.Runs.{items_of}
+use Rattle.kmip.proofs.NumberLaws.{chunk_given}
+use Rattle.kmip.proofs.RowLaws.{value_missed, value_alone, gives_as}
 use Rattle.kmip.proofs.keys.material.Goals as goal
 
+pub returns-in_err-key : goal.returns-in_err-key
+returns-in_err-key c =
+    rw c.from_residual.ensures
+    (value_missed KeyMaterial ByteString (λ key. eqb (length key) key_size) (items_of c.args.run) c.in_err-key.ensures [])
+
 pub returns : goal.returns
-unfolding in_order
 returns c =
-    λ items r.
-    let s = c.args in
-    let m = c.member-m.result in
-    let first = from KeyMaterial items in
-    let sought = c.member-m.ensures.0 items r in
-    let bytes : ByteString ≡ Structure → ⊥ = λ e. omega (arith, e) in
-    let row = row_value s.bytes.now s.end ByteString m first sought bytes (λ key. eqb (length key) key_size) _ _ refl
-    (key_length s.bytes.now s.end m first sought) in
-    (last_row s.bytes.now s.end _ _ _ row (in_order []) (λ rest. refl), key_found s.bytes.now s.end m first sought)
+    let is = c.in_ok-key.ensures.0 in
+    rw c.ok.ensures.value
+    (gives_as (λ key. key.now) _ (value_alone KeyMaterial ByteString (λ key. eqb (length key) key_size) (items_of c.args.run) _ _ is)
+    (ap bytes_of (sym is)) (chunk_given key_size c.in_ok-key.key.now c.try_into.result c.try_into.ensures.1))

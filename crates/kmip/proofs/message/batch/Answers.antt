@@ -1,20 +1,21 @@
 -- `batch` meets its contract.
 -- Assumes nothing.
-use mathlib.Core.Path.{refl}
-use Rattle.rules.specs.Kmip.{in_order, payload_good, brought_by, RequestPayload}
-use Rattle.kmip.proofs.MessageLaws.{two_rows, two_brought}
+use Rattle.rules.specs.Ttlv.{Enumeration}
+use Rattle.rules.specs.Kmip.{◌is_a◌with◌, is, payload_good, brought_by, Import, Operation, RequestPayload}
+use Rattle.kmip.specs.Reading.{shown}
+use Rattle.kmip.specs.Runs.{items_of}
+use Rattle.kmip.proofs.RowLaws.{last_missed, last_gives}
 use Rattle.kmip.proofs.message.batch.Goals as goal
 
+pub returns-in_err-members : goal.returns-in_err-members
+returns-in_err-members c =
+    let s = c.args.slot in
+    rw c.from_residual-in_err-members.ensures
+    (last_missed (Operation is_a Enumeration with is Import) (items_of c.args.run) _ c.in_ok-rest.ensures RequestPayload
+    (payload_good s.namespace s.tag) c.in_err-members.ensures)
+
 pub returns : goal.returns
-unfolding in_order
 returns c =
-    λ items r.
-    let s = c.args in
-    let good = payload_good s.ns s.tag in
-    let step = c.numbered-o.ensures items r in
-    let seek = c.member-m.ensures.0 in (
-      two_rows s.bytes.now s.end RequestPayload _ _ c.numbered-o.result step c.member-m.result c.payload-l.result good brought_by seek
-          c.payload-l.ensures,
-      two_brought s.bytes.now s.end RequestPayload _ _ c.numbered-o.result step c.member-m.result c.payload-l.result good brought_by seek
-          c.payload-l.ensures _ refl refl refl,
-    )
+    let s = c.args.slot in
+    last_gives (Operation is_a Enumeration with is Import) (items_of c.args.run) _ c.in_ok-rest.ensures RequestPayload
+    (payload_good s.namespace s.tag) shown brought_by _ _ c.in_ok-members.ensures _ c.payload.ensures

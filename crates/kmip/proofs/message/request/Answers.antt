@@ -1,36 +1,49 @@
 -- `request` meets its contract.
 -- Assumes nothing.
-use native.Mathlib.Omega.{arith}
-use mathlib.Core.Path.{refl, sym, ◌∙◌}
-use Rattle.kmip.proofs.RunLaws.{item_fronted}
-use Rattle.kmip.proofs.RequestLaws.{unsound_none, no_item, a_value_lem, a_structure_lem}
+use mathlib.Core.Path.{ap, ◌∙◌}
+use mathlib.Core.Bool.{not}
+use Rattle.kmip.specs.Reading.{loaded}
+use Rattle.kmip.proofs.RequestLaws.{unsound_none, empty_none, other_none, several_none, tag_none, message_loads, none_told, some_told}
 use Rattle.kmip.proofs.message.request.Goals as goal
+use Rattle.kmip.proofs.message.request.Goals.{
+  in_default-via-in-Structure+then-item-eq-REQUEST_MESSAGE+else-is_none,
+  in_default-via-in-Structure+else-item-eq-REQUEST_MESSAGE,
+  in_default-via-in_default,
+}
 
-pub returns-then-not-sound : goal.returns-then-not-sound
-returns-then-not-sound c =
-    let s = c.args in
-    unsound_none s.bytes.now s.ns s.tag _ c.no_load.ensures (sym c.sound.ensures ∙ c.if-not-sound.true)
+pub returns-in_err-run : goal.returns-in_err-run
+returns-in_err-run c =
+    let s = c.args.slot in
+    ap loaded c.from_residual.ensures ∙ unsound_none s.namespace s.tag c.args.bytes.now c.in_err-run.ensures
 
-pub overflow_add-result : goal.overflow_add-result
-overflow_add-result c =
-    let s = c.args in
-    let f = item_fronted s.bytes.now 0 _ _ (sym c.item_at-front.ensures ∙ c.in-Structure.is) refl in
-    omega (arith, f.1.inside)
-
-pub returns-in-NoItem : goal.returns-in-NoItem
-returns-in-NoItem c =
-    let s = c.args in
-    no_item s.bytes.now s.ns s.tag (sym c.sound.ensures ∙ c.if-not-sound.false) _ c.no_load-in-NoItem.ensures
-    (sym c.item_at-front.ensures ∙ c.in-NoItem.is)
-
-pub returns-in-Value : goal.returns-in-Value
-returns-in-Value c =
-    let s = c.args in
-    a_value_lem s.bytes.now s.ns s.tag (sym c.sound.ensures ∙ c.if-not-sound.false) _ _ _ _ _ c.no_load-in-Value.ensures
-    (sym c.item_at-front.ensures ∙ c.in-Value.is)
+pub returns-in_err-item : goal.returns-in_err-item
+returns-in_err-item c =
+    let s = c.args.slot in
+    ap loaded c.from_residual-in_err-item.ensures
+    ∙ empty_none s.namespace s.tag c.args.bytes.now c.in_ok-run.run' c.in_ok-run.ensures c.in_err-item.ensures.steps
 
 pub returns-in-Structure : goal.returns-in-Structure
 returns-in-Structure c =
-    let s = c.args in
-    a_structure_lem s.bytes.now s.ns s.tag (sym c.sound.ensures ∙ c.if-not-sound.false) c.in-Structure.t c.in-Structure.length
-    (sym c.item_at-front.ensures ∙ c.in-Structure.is) c.message-l.result _ c.message-l.ensures refl refl refl refl
+    let s = c.args.slot in
+    let first = c.in_ok-item.ensures.steps in
+    let alone = none_told _ _ _ (c.is_none.ensures ∙ ap not c.if-is_none.true) c.next-then-item-eq-REQUEST_MESSAGE.ensures.steps in
+    message_loads s.namespace s.tag c.args.bytes.now c.in_ok-run.run' c.in_ok-run.ensures c.in_ok-item.item.tag c.in_ok-item.item.body _ first.is
+    c.in-Structure.members c.in-Structure.is alone c.if-item-eq-REQUEST_MESSAGE.true c.message.result c.message.ensures
+
+pub returns-in_default : goal.returns-in_default
+returns-in_default c =
+    let s = c.args.slot in
+    let xs = c.args.bytes.now in
+    let run = c.in_ok-run.run' in
+    let item = c.in_ok-item.item in
+    let first = c.in_ok-item.ensures.steps in
+    elim c.in_default.branch [
+      | in_default-via-in-Structure+then-item-eq-REQUEST_MESSAGE+else-is_none w ↦
+          let next = some_told _ _ _ (w.is_none.ensures ∙ ap not w.if-is_none.false) w.next-then-item-eq-REQUEST_MESSAGE.ensures.steps in
+          several_none s.namespace s.tag xs run c.in_ok-run.ensures item.tag item.body _ first.is w.in-Structure.members w.in-Structure.is _ _ _ next.1.is
+      | in_default-via-in-Structure+else-item-eq-REQUEST_MESSAGE w ↦
+          tag_none s.namespace s.tag xs run c.in_ok-run.ensures item.tag item.body _ first.is w.in-Structure.members w.in-Structure.is
+          w.if-item-eq-REQUEST_MESSAGE.false
+      | in_default-via-in_default w ↦
+          other_none s.namespace s.tag xs run c.in_ok-run.ensures item.tag item.body _ first.is (λ members e. let i = w.in_default.is in cc)
+    ]

@@ -1,24 +1,21 @@
 -- `header` meets its contract.
 -- Assumes nothing.
-use borrow.Author.Tests.{not-true, not-false}
-use mathlib.Core.Path.{refl, sym, ◌∙◌}
-use mathlib.Core.List.{[], ◌∷◌}
+use mathlib.Core.Path.{◌≡◌, sym, ◌∙◌}
+use mathlib.Core.Bool.{◌&&◌}
+use borrow.Author.Rules.{rules}
+use borrow.Author.Tests.{tests}
 use Rattle.rules.specs.Ttlv.{Integer}
-use Rattle.rules.specs.Kmip.{in_order, ◌is_a◌with◌, is, BatchCount}
-use Rattle.kmip.proofs.RowLaws.{last_row}
+use Rattle.rules.specs.Kmip.{has, in_order, protocol_version, request_header, ◌is_a◌with◌, is, BatchCount, ProtocolVersion}
+use Rattle.kmip.specs.Runs.{items_of}
+use Rattle.kmip.proofs.RowLaws.{row_alone, structure_missed, structure_row, some_and}
 use Rattle.kmip.proofs.rows.header.Goals as goal
 
-pub returns-then-not-a : goal.returns-then-not-a
-unfolding in_order
-returns-then-not-a c =
-    λ items r.
-    sym ((c.versioned-a.ensures items r).fails (not-true _ c.if-not-a.true) (in_order (BatchCount is_a Integer with is 1 ∷ [])))
-
 pub returns : goal.returns
-unfolding in_order
 returns c =
-    λ items r.
-    let s = c.args in
-    let p = (c.versioned-a.ensures items r).passes (not-false _ c.if-not-a.false) in
-    last_row s.bytes.now s.end _ _ _ (c.numbered-b.ensures _ p.1) (in_order []) (λ rest. refl)
-    ∙ sym (p.0 (in_order (BatchCount is_a Integer with is 1 ∷ [])))
+    let items = items_of c.args.run in
+    some_and _ _ _ c.structure.result c.is_some_and.result (in_order request_header items) c.is_some_and.ensures c.structure.ensures
+    (λ missed. structure_missed ProtocolVersion (in_order protocol_version) items missed _)
+    (λ p tested found.
+    let told : c.is_some_and.result
+    ≡ in_order protocol_version (items_of p.0) && has (BatchCount is_a Integer with is 1) (items_of p.1) = search (rules, tests, row_alone) in
+    told ∙ sym (structure_row ProtocolVersion (in_order protocol_version) items _ _ found _))

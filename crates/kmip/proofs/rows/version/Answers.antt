@@ -1,24 +1,18 @@
 -- `version` meets its contract.
 -- Assumes nothing.
-use borrow.Author.Tests.{not-true, not-false}
-use mathlib.Core.Path.{refl, sym, ◌∙◌}
-use mathlib.Core.List.{[], ◌∷◌}
+use mathlib.Core.Path.{◌≡◌, sym, ◌∙◌}
+use borrow.Author.Rules.{rules}
+use borrow.Author.Tests.{tests}
 use Rattle.rules.specs.Ttlv.{Integer}
-use Rattle.rules.specs.Kmip.{in_order, ◌is_a◌with◌, any, ProtocolVersionMinor}
-use Rattle.kmip.proofs.RowLaws.{last_row}
+use Rattle.rules.specs.Kmip.{has, in_order, protocol_version, ◌is_a◌with◌, any, ProtocolVersionMinor}
+use Rattle.kmip.specs.Runs.{items_of}
+use Rattle.kmip.proofs.RowLaws.{number_alone, some_and}
 use Rattle.kmip.proofs.rows.version.Goals as goal
 
-pub returns-then-not-a : goal.returns-then-not-a
-unfolding in_order
-returns-then-not-a c =
-    λ items r.
-    sym ((c.major-a.ensures items r).fails (not-true _ c.if-not-a.true) (in_order (ProtocolVersionMinor is_a Integer with any ∷ [])))
-
 pub returns : goal.returns
-unfolding in_order
 returns c =
-    λ items r.
-    let s = c.args in
-    let p = (c.major-a.ensures items r).passes (not-false _ c.if-not-a.false) in
-    last_row s.bytes.now s.end _ _ _ (c.present-b.ensures _ p.1) (in_order []) (λ rest. refl)
-    ∙ sym (p.0 (in_order (ProtocolVersionMinor is_a Integer with any ∷ [])))
+    some_and _ _ _ c.major.result c.is_some_and.result (in_order protocol_version (items_of c.args.run)) c.is_some_and.ensures c.major.ensures
+    (λ missed. missed _)
+    (λ rest tested found.
+    let told : c.is_some_and.result ≡ has (ProtocolVersionMinor is_a Integer with any) (items_of rest) = search (rules, tests, number_alone) in
+    told ∙ sym (found.0 _))

@@ -1,23 +1,25 @@
 -- `worded` meets its contract.
 -- Assumes nothing.
-use mathlib.Core.Path.{◌≡◌, refl, ◌∙◌}
+use mathlib.Core.Path.{◌≡◌, ◌∙◌}
 use mathlib.Core.List.{[]}
-use native.Mathlib.Omega.{arith}
+use lib.Dec.{eqb}
+use lib.Pointwise.{pointwise}
+use borrow.Author.Rules.{rules}
+use borrow.Author.Tests.{tests}
 use Rattle.cells.specs.Predicates.{same}
-use Rattle.cells.proofs.PredicatesLaws.{same_part_lem}
-use Rattle.rules.specs.Ttlv.{Structure, Text}
-use Rattle.rules.specs.Kmip.{from, in_order}
-use Rattle.kmip.proofs.RowLaws.{row_value, last_row}
+use Rattle.rules.specs.Ttlv.{Text}
+use Rattle.kmip.specs.Runs.{items_of}
+use Rattle.kmip.proofs.NumberLaws.{same_bytes}
+use Rattle.kmip.proofs.RowLaws.{value_missed, value_alone, some_and}
 use Rattle.kmip.proofs.rows.worded.Goals as goal
 
 pub returns : goal.returns
-unfolding in_order
 returns c =
-    λ items r.
     let s = c.args in
-    let m = c.member-m.result in
-    let items' = from s.tag items in
-    let text : Text ≡ Structure → ⊥ = λ e. omega (arith, e) in
-    let row = row_value s.bytes.now s.end Text m items' (c.member-m.ensures.0 items r) text (λ name. same name s.text.now) _ _ refl
-    (λ h. c.reads.ensures ∙ same_part_lem m.start m.length s.bytes.now s.text.now h.whole) in
-    last_row s.bytes.now s.end _ _ _ row (in_order []) (λ rest. refl)
+    let items = items_of s.run in
+    let text = s.text.now in
+    some_and _ _ _ c.value.result c.is_some_and.result _ c.is_some_and.ensures c.value.ensures
+    (λ missed. value_missed s.tag Text (λ name. same name text) items missed [])
+    (λ p tested found.
+    let told : c.is_some_and.result ≡ pointwise eqb p.0.now text = search (rules, tests) in
+    told ∙ same_bytes p.0.now text ∙ value_alone s.tag Text (λ name. same name text) items _ _ found.0)

@@ -2,40 +2,40 @@
 -- Assumes nothing.
 use borrow.Author.Rules.{rules}
 use native.Mathlib.Omega.{arith}
-use mathlib.Core.Path.{sym}
+use mathlib.Core.Path.{◌≡◌, sym, ap, ◌∙◌}
+use lib.ListN.{length}
 use lib.Seq.{length-take-le}
-use Rattle.kmip.specs.Pieces.{before_size}
-use Rattle.kmip.proofs.LayingLaws.{between_size_lem, message_long, laid, laid_length}
+use Rattle.std.specs.Int.{next_multiple_of}
+use Rattle.rules.specs.Ttlv.{to_eight}
+use Rattle.kmip.specs.Pieces.{before_size, before_uid}
+use Rattle.kmip.proofs.LayingLaws.{message_long, laid}
 use Rattle.kmip.proofs.writing.lay.Goals as goal
 
-pub slice_bounds-up_to_uid-end-2 : goal.slice_bounds-up_to_uid-end-2
-slice_bounds-up_to_uid-end-2 c =
-    sym (length-take-le before_size c.args.out.now (omega arith))
+pub slice_bounds-copy_from_slice-end-2 : goal.slice_bounds-copy_from_slice-end-2
+slice_bounds-copy_from_slice-end-2 c = let p = c.requires in sym (length-take-le before_size c.args.out.now (omega arith))
 
-pub up_to_uid-requires : goal.up_to_uid-requires
-up_to_uid-requires c =
-    (length-take-le before_size c.args.out.now (omega arith), omega arith, omega arith)
+pub copy_from_slice-requires : goal.copy_from_slice-requires
+unfolding before_uid
+copy_from_slice-requires c = let p = c.requires in length-take-le before_size c.args.out.now (omega arith) ∙ sym (ap length c.up_to_uid.ensures)
 
-pub up_to_key-requires : goal.up_to_key-requires
-up_to_key-requires c =
-    let s = c.args in
-    let p = c.requires in
-    between_size_lem s.ns s.tag s.uid.now s.key.now s.out.now (search rules) (search rules) p.1 p.2 p.3 p.0
-    c.up_to_uid.ensures c.copy.ensures c.fill_zero.ensures
-
-pub shape_of-out : goal.shape_of-out
-shape_of-out c =
-    let s = c.args in
-    let p = c.requires in
-    laid_length s.ns s.tag s.uid.now s.key.now s.out.now (search rules) (search rules) p.1 p.2 p.3 p.0
-    c.up_to_uid.ensures c.copy.ensures c.fill_zero.ensures c.up_to_key.ensures c.copy-2.ensures
+to_eight_lem : (l : _) → next_multiple_of l 8 ≡ to_eight l
+to_eight_lem l = omega arith
 
 pub returns : goal.returns
 returns c =
     let s = c.args in
-    let p = c.requires in (
-      message_long s.ns s.tag s.uid.now s.key.now s.out.now (search rules) (search rules) p.1 p.2 p.3 p.0
-          c.up_to_uid.ensures c.copy.ensures c.fill_zero.ensures c.up_to_key.ensures,
-      laid s.ns s.tag s.uid.now s.key.now s.out.now (search rules) (search rules) p.1 p.2 p.3 p.0
-          c.up_to_uid.ensures c.copy.ensures c.fill_zero.ensures c.up_to_key.ensures c.copy-2.ensures,
+    let p = c.requires in
+    let room = c.next_multiple_of-room.ensures.value ∙ to_eight_lem (length s.uid.now) in
+    rw (
+      c.fill.ensures.after (λ y e. e),
+      c.copy_from_slice.ensures.after,
+      c.up_to_uid.ensures,
+      c.copy_from_slice-2.ensures.after,
+      c.copy_from_slice-3.ensures.after,
+      c.up_to_key.ensures,
+      c.copy_from_slice-4.ensures.after,
+      room,
+    ) (
+      message_long s.ns s.tag s.uid.now s.key.now s.out.now (search rules) (search rules) p.1 p.2 c.told-key p.0,
+      laid s.ns s.tag s.uid.now s.key.now s.out.now (search rules) (search rules) p.1 p.2 c.told-key p.0,
     )

@@ -1,11 +1,11 @@
 -- Assumes nothing.
-use Prim.Native.Nat.{◌-◌}
-use Rattle.ttlv.specs.Listing.{items_in}
+use lib.ListN.{length}
+use Rattle.ttlv.specs.Pieces.{items_of}
 use Rattle.ttlv.proofs.LayLaws.{Laying}
 use Rattle.ttlv.proofs.writing.lay.Given as goal
 
-abbrev pub invariant-loop-i : goal.invariant-loop-i
-invariant-loop-i l = Laying l.values (items_in l.count l.items) l.initial.out l.out l.at l.i
+abbrev pub invariant-loop-left : goal.invariant-loop-left
+invariant-loop-left l = Laying l.values (items_of l.items) l.initial.out l.out l.at (items_of l.left)
 
-abbrev pub decreases-loop-i : goal.decreases-loop-i
-decreases-loop-i l = l.count - l.i
+abbrev pub decreases-loop-left : goal.decreases-loop-left
+decreases-loop-left l = length l.left
