@@ -6,7 +6,7 @@ use mathlib.Core.Option.{Option, none, some}
 use Prim.Native.Nat.{ℕ, zero, suc, ◌+◌, ◌-◌, ◌<◌, ◌≤◌}
 use native.Mathlib.Omega.{arith}
 use native.Mathlib.Numerals.{add-one}
-use lib.ListN.{length, take, drop, get_or, set, length-set}
+use lib.ListN.{length, take, drop, get_or, set}
 use lib.Seq.{get_or-set_same, get_or-set_other, take-length}
 use Rattle.cells.specs.Cells.{part}
 use Rattle.cells.proofs.CellsLaws.{length_part}
@@ -20,7 +20,8 @@ use Rattle.std.specs.Prelude as places
 use Rattle.ttlv.specs.declared.Front.{Front}
 use Rattle.ttlv.specs.Reading.{Fronted, item_at}
 use Rattle.ttlv.proofs.FrontLaws.{found_fronted}
-use Rattle.ttlv.specs.Walking.{Open, rest, left, Nested, Between, Onward, Starts, Closed}
+use Rattle.ttlv.specs.Between.{rest, Nested, Between, Onward}
+use Rattle.ttlv.specs.Walking.{left, Starts, Closed}
 use Rattle.ttlv.specs.declared.walk.Walk.{Walk}
 use mathlib.Core.Logic.{inl, inr}
 use Rattle.ttlv.proofs.ListLaws.{one, join_assoc, join_empty, empty_join, list_none, list_deep, list_broken, list_value, list_structure}
@@ -41,12 +42,12 @@ module _ (xs ends : List ℕ) where
       let t : get_or ends k 0 ≡ end = ap (λ j. get_or ends j 0) (sym s) ∙ e in
       rest_suc k at ∙ rw (t, s)
 
-  nested_suc : (k at : ℕ) → Nested xs ends (suc k) at → (at ≤ get_or ends k 0) × (get_or ends k 0 ≤ length xs) × Nested xs ends k (get_or ends k 0)
+  nested_suc : (k at : ℕ) → Nested xs ends (suc k) at → (at ≤ get_or ends k 0) × ((get_or ends k 0 ≤ length xs) × Nested xs ends k (get_or ends k 0))
   unfolding Nested
   nested_suc k at n = n
 
   nested_top : (levels at : ℕ) → 0 < levels → Nested xs ends levels at
-      → (at ≤ get_or ends (levels - 1) 0) × (get_or ends (levels - 1) 0 ≤ length xs) × Nested xs ends (levels - 1) (get_or ends (levels - 1) 0)
+      → (at ≤ get_or ends (levels - 1) 0) × ((get_or ends (levels - 1) 0 ≤ length xs) × Nested xs ends (levels - 1) (get_or ends (levels - 1) 0))
   nested_top zero at h n = absurd (omega arith)
   nested_top (suc k) at h n = let s : suc k - 1 ≡ k = omega arith in rw s (nested_suc k at n)
 
@@ -54,7 +55,7 @@ module _ (xs ends : List ℕ) where
   nested_on : (levels at next : ℕ) → 0 < levels → next ≤ get_or ends (levels - 1) 0 → Nested xs ends levels at → Nested xs ends levels next
   unfolding Nested
   nested_on zero at next h l n = absurd (omega arith)
-  nested_on (suc k) at next h l n = let s : suc k - 1 ≡ k = omega arith in (rw s at l, n.1, n.2)
+  nested_on (suc k) at next h l n = let s : suc k - 1 ≡ k = omega arith in (rw s at l, n.1)
 
   -- a store past the open levels is not seen
   rest_set : (j k v at : ℕ) → j ≤ k → rest xs (set ends k v) j at ≡ rest xs ends j at
@@ -69,21 +70,21 @@ module _ (xs ends : List ℕ) where
   nested_set zero k v at h n = tt
   nested_set (suc j) k v at h n =
       let e : get_or (set ends k v) j 0 ≡ get_or ends j 0 = get_or-set_other ends k j v 0 (omega arith) in
-      rw e (n.0, n.1, nested_set j k v (get_or ends j 0) (omega arith) n.2)
+      rw e (n.0, (n.1.0, nested_set j k v (get_or ends j 0) (omega arith) n.1.1))
 
   -- one level more
   nested_more : (k v at : ℕ) → k < length ends → at ≤ v → v ≤ length xs → Nested xs ends k v → Nested xs (set ends k v) (suc k) at
   unfolding Nested
   nested_more k v at h l m n =
       let e : get_or (set ends k v) k 0 ≡ v = get_or-set_same ends k v 0 h in
-      rw e (l, m, nested_set k k v v (omega arith) n)
+      rw e (l, (m, nested_set k k v v (omega arith) n))
 
 -- ------------------------------------------------------------------------
 -- The steps
 
-pub walk_start : (xs ends : List ℕ) → get_or ends 0 0 ≡ length xs → length ends ≡ suc deepest → Between xs ends 1 0
+pub nested_start : (xs ends : List ℕ) → get_or ends 0 0 ≡ length xs → Nested xs ends 1 0
 unfolding Nested
-walk_start xs ends e l = record { inside = omega arith; few = omega arith; nested = (omega arith, omega arith, tt); spaces = l }
+nested_start xs ends e = (omega arith, (omega arith, tt))
 
 -- the bytes are still to be read
 pub start_whole : (xs ends : List ℕ) → get_or ends 0 0 ≡ length xs → rest xs ends 1 0 ≡ list_at 1 0 xs
@@ -110,7 +111,7 @@ module _ {xs ends : List ℕ} {levels at : ℕ} (o : Between xs ends levels at) 
   at_end = (nested_top xs ends levels at l o.nested).0
 
   pub end_inside : end ≤ length xs
-  end_inside = (nested_top xs ends levels at l o.nested).1
+  end_inside = (nested_top xs ends levels at l o.nested).1.0
 
   -- what was found here
   pub found_here : (r : places.Option Front) → r ≡ item_at xs at end → Fronted xs at end r
@@ -136,8 +137,7 @@ module _ {xs ends : List ℕ} {levels at : ℕ} (o : Between xs ends levels at) 
       record {
         inside = o.inside;
         few = omega arith;
-        nested = rw (ap (Nested xs ends (levels - 1)) e) (nested_top xs ends levels at l o.nested).2;
-        spaces = o.spaces;
+        nested = rw (ap (Nested xs ends (levels - 1)) e) (nested_top xs ends levels at l o.nested).1.1;
       }
 
   pub close_rest : at ≡ end → rest xs ends (levels - 1) at ≡ rest xs ends levels at
@@ -173,7 +173,6 @@ module _ {xs ends : List ℕ} {levels at : ℕ} (o : Between xs ends levels at) 
           let e : list_at levels at run ≡ join (one i) (list_at levels next (part next (end - next) xs)) =
           list_value levels at run (run_some ne) h tag kind (part (at + item_head) n xs) (part next (end - next) xs) f.is ∙ rw (ln, ← c) in
           record {
-            between = record { inside = omega arith; few = o.few; nested = nested_on xs ends levels at next l d o.nested; spaces = o.spaces };
             on = omega arith;
             depth_fits = h;
             inside = omega arith;
@@ -184,14 +183,32 @@ module _ {xs ends : List ℕ} {levels at : ℕ} (o : Between xs ends levels at) 
                 ∙ ap (join (one i)) (sym (rest_top xs ends levels next end l refl));
           }
 
-      pub structure_on : (tag n : ℕ) → Fronted xs at end (Some (Structure tag n))
+      pub value_between : (tag kind n next : ℕ) → Fronted xs at end (Some (Value tag kind n next)) → Between xs ends levels next
+      value_between tag kind n next f =
+          let b = end_inside in
+          let d = f.inside.1 in
+          record { inside = omega arith; few = o.few; nested = nested_on xs ends levels at next l d o.nested }
+
+      pub structure_between : (tag n : ℕ) → length ends ≡ suc deepest → Fronted xs at end (Some (Structure tag n))
+          → Between xs (set ends levels (at + item_head + n)) (levels + 1) (at + item_head)
+      structure_between tag n sp f =
+          let b = end_inside in
+          let d = f.inside in
+          let to = at + item_head + n in
+          let kept = nested_on xs ends levels at to l d o.nested in
+          record {
+            inside = omega arith;
+            few = omega arith;
+            nested = rw (add-one levels) (nested_more xs ends levels to (at + item_head) (omega arith) (omega arith) (omega arith) kept);
+          }
+
+      pub structure_on : (tag n : ℕ) → length ends ≡ suc deepest → Fronted xs at end (Some (Structure tag n))
           → Onward xs ends levels at (item tag ttlv.Structure levels (at + item_head) n)
           (set ends levels (at + item_head + n)) (levels + 1) (at + item_head)
-      structure_on tag n f =
+      structure_on tag n sp f =
           let a = at_end in
           let b = end_inside in
           let d = f.inside in
-          let sp = o.spaces in
           let i = item tag ttlv.Structure levels (at + item_head) n in
           let to = at + item_head + n in
           let ends' = set ends levels to in
@@ -208,12 +225,6 @@ module _ {xs ends : List ℕ} {levels at : ℕ} (o : Between xs ends levels at) 
           ∙ rw (s, w, add-one levels, rest_set xs ends levels levels to to (omega arith), rest_top xs ends levels to end l refl) in
           let kept = nested_on xs ends levels at to l d o.nested in
           record {
-            between = record {
-              inside = omega arith;
-              few = omega arith;
-              nested = rw (add-one levels) (nested_more xs ends levels to (at + item_head) (omega arith) (omega arith) (omega arith) kept);
-              spaces = length-set ends levels to ∙ sp;
-            };
             on = omega arith;
             depth_fits = h;
             inside = omega arith;
@@ -225,8 +236,12 @@ module _ {xs ends : List ℕ} {levels at : ℕ} (o : Between xs ends levels at) 
           }
 
 -- ------------------------------------------------------------------------
--- After the ends that were reached
+-- The walk itself
 
+pub walk_between : (w : Walk) → Between w.bytes.now w.ends w.levels w.at
+walk_between w = record { inside = w.inside; few = w.few; nested = w.nested }
+
+-- after the ends that were reached
 module _ {w m : Walk} (c : Closed w m) where
   pub not_closed : (m.levels ≡ 0 → ⊥) → m.at ≡ get_or m.ends (m.levels - 1) 0 → ⊥
   not_closed n e = elim c.all_closed [ inl z ↦ n z | inr ne ↦ ne e ]
@@ -235,7 +250,6 @@ module _ {w m : Walk} (c : Closed w m) where
       → Onward w.bytes.now w.ends w.levels w.at i ends' levels' at'
   onward_from {ends'} {levels'} {at'} {i} n =
       record {
-        between = rw (← c.over) n.between;
         on = omega (arith, n.on, c.at_stays);
         depth_fits = n.depth_fits;
         inside = omega (arith, n.inside, ap length c.over);
@@ -259,11 +273,10 @@ sound_if xs o e = sym (some_list 1 0 (read_at 1 xs)) ∙ ap is_some e
 
 pub record Telling (xs : List ℕ) (w : Walk) : Type 0 where
   pub over : w.bytes.now ≡ xs
-  pub open_so : Open w
   pub tells : is_some (left w) ≡ is_some (list_at 1 0 xs)
 
 pub tell_start : (xs : List ℕ) (w : Walk) → Starts xs w → Telling xs w
-tell_start xs w s = record { over = s.over; open_so = s.open_so; tells = ap is_some s.whole }
+tell_start xs w s = record { over = s.over; tells = ap is_some s.whole }
 
 some_behind : (i : Item) (r : Option (List Item)) → is_some (join (one i) r) ≡ is_some r
 unfolding join
@@ -276,7 +289,6 @@ module _ {xs : List ℕ} {w : Walk} (t : Telling xs w) where
   tell_more m i over on =
       record {
         over = over ∙ t.over;
-        open_so = rw over on.between;
         tells =
             sym (some_behind i (left m))
             ∙ ap is_some (ap (λ x. join (one i) (rest x m.ends m.levels m.at)) over ∙ sym on.taken)
