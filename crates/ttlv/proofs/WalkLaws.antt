@@ -42,7 +42,8 @@ module _ (xs ends : List ℕ) where
       let t : get_or ends k 0 ≡ end = ap (λ j. get_or ends j 0) (sym s) ∙ e in
       rest_suc k at ∙ rw (t, s)
 
-  nested_suc : (k at : ℕ) → Nested xs ends (suc k) at → (at ≤ get_or ends k 0) × ((get_or ends k 0 ≤ length xs) × Nested xs ends k (get_or ends k 0))
+  nested_suc : (k at : ℕ) → Nested xs ends (suc k) at
+      → (at ≤ get_or ends k 0) × ((get_or ends k 0 ≤ length xs) × Nested xs ends k (get_or ends k 0))
   unfolding Nested
   nested_suc k at n = n
 
@@ -107,14 +108,14 @@ module _ {xs ends : List ℕ} {levels at : ℕ} (o : Between xs ends levels at) 
   abbrev outer : Option (List Item)
   outer = rest xs ends (levels - 1) end
 
-  pub at_end : at ≤ end
+  at_end : at ≤ end
   at_end = (nested_top xs ends levels at l o.nested).0
 
-  pub end_inside : end ≤ length xs
+  end_inside : end ≤ length xs
   end_inside = (nested_top xs ends levels at l o.nested).1.0
 
   -- what was found here
-  pub found_here : (r : places.Option Front) → r ≡ item_at xs at end → Fronted xs at end r
+  found_here : (r : places.Option Front) → r ≡ item_at xs at end → Fronted xs at end r
   found_here r e = found_fronted xs at end at_end end_inside r e
 
   run_length : length run ≡ end - at
@@ -154,14 +155,14 @@ module _ {xs ends : List ℕ} {levels at : ℕ} (o : Between xs ends levels at) 
   none_left n = top ∙ ap (λ r. join r outer) n
 
   module _ (ne : at ≡ end → ⊥) where
-    pub deep_left : deepest < levels → rest xs ends levels at ≡ none
+    deep_left : deepest < levels → rest xs ends levels at ≡ none
     deep_left h = none_left (list_deep levels at run (run_some ne) h)
 
     module _ (h : levels ≤ deepest) where
-      pub broken_left : Fronted xs at end None → rest xs ends levels at ≡ none
+      broken_left : Fronted xs at end None → rest xs ends levels at ≡ none
       broken_left f = none_left (list_broken levels at run (run_some ne) h f.is)
 
-      pub value_on : (tag kind n next : ℕ) → Fronted xs at end (Some (Value tag kind n next))
+      value_on : (tag kind n next : ℕ) → Fronted xs at end (Some (Value tag kind n next))
           → Onward xs ends levels at (item tag kind levels (at + item_head) n) ends levels next
       value_on tag kind n next f =
           let a = at_end in
@@ -183,13 +184,13 @@ module _ {xs ends : List ℕ} {levels at : ℕ} (o : Between xs ends levels at) 
                 ∙ ap (join (one i)) (sym (rest_top xs ends levels next end l refl));
           }
 
-      pub value_between : (tag kind n next : ℕ) → Fronted xs at end (Some (Value tag kind n next)) → Between xs ends levels next
+      value_between : (tag kind n next : ℕ) → Fronted xs at end (Some (Value tag kind n next)) → Between xs ends levels next
       value_between tag kind n next f =
           let b = end_inside in
           let d = f.inside.1 in
           record { inside = omega arith; few = o.few; nested = nested_on xs ends levels at next l d o.nested }
 
-      pub structure_between : (tag n : ℕ) → length ends ≡ suc deepest → Fronted xs at end (Some (Structure tag n))
+      structure_between : (tag n : ℕ) → length ends ≡ suc deepest → Fronted xs at end (Some (Structure tag n))
           → Between xs (set ends levels (at + item_head + n)) (levels + 1) (at + item_head)
       structure_between tag n sp f =
           let b = end_inside in
@@ -202,7 +203,7 @@ module _ {xs ends : List ℕ} {levels at : ℕ} (o : Between xs ends levels at) 
             nested = rw (add-one levels) (nested_more xs ends levels to (at + item_head) (omega arith) (omega arith) (omega arith) kept);
           }
 
-      pub structure_on : (tag n : ℕ) → length ends ≡ suc deepest → Fronted xs at end (Some (Structure tag n))
+      structure_on : (tag n : ℕ) → length ends ≡ suc deepest → Fronted xs at end (Some (Structure tag n))
           → Onward xs ends levels at (item tag ttlv.Structure levels (at + item_head) n)
           (set ends levels (at + item_head + n)) (levels + 1) (at + item_head)
       structure_on tag n sp f =
@@ -241,12 +242,18 @@ module _ {xs ends : List ℕ} {levels at : ℕ} (o : Between xs ends levels at) 
 pub walk_between : (w : Walk) → Between w.bytes.now w.ends w.levels w.at
 walk_between w = record { inside = w.inside; few = w.few; nested = w.nested }
 
--- after the ends that were reached
-module _ {w m : Walk} (c : Closed w m) where
-  pub not_closed : (m.levels ≡ 0 → ⊥) → m.at ≡ get_or m.ends (m.levels - 1) 0 → ⊥
-  not_closed n e = elim c.all_closed [ inl z ↦ n z | inr ne ↦ ne e ]
+-- after the ends that were reached, with a structure still open
+module _ {w m : Walk} (c : Closed w m) (open_so : m.levels ≡ 0 → ⊥) where
+  some_level : 0 < m.levels
+  some_level = omega arith
 
-  pub onward_from : {ends' : List ℕ} {levels' at' : ℕ} {i : Item} → Onward m.bytes.now m.ends m.levels m.at i ends' levels' at'
+  abbrev next_end : ℕ
+  next_end = get_or m.ends (m.levels - 1) 0
+
+  not_closed : m.at ≡ next_end → ⊥
+  not_closed e = elim c.all_closed [ inl z ↦ open_so z | inr ne ↦ ne e ]
+
+  onward_from : {ends' : List ℕ} {levels' at' : ℕ} {i : Item} → Onward m.bytes.now m.ends m.levels m.at i ends' levels' at'
       → Onward w.bytes.now w.ends w.levels w.at i ends' levels' at'
   onward_from {ends'} {levels'} {at'} {i} n =
       record {
@@ -255,6 +262,35 @@ module _ {w m : Walk} (c : Closed w m) where
         inside = omega (arith, n.inside, ap length c.over);
         taken = sym c.left_stays ∙ n.taken ∙ ap (λ xs. join (one i) (rest xs ends' levels' at')) c.over;
       }
+
+  pub step_deep : deepest < m.levels → left w ≡ none
+  step_deep h = sym c.left_stays ∙ deep_left (walk_between m) some_level not_closed h
+
+  module _ (h : m.levels ≤ deepest) {r : places.Option Front} (found : r ≡ item_at m.bytes.now m.at next_end) where
+    front_so : {f : places.Option Front} → r ≡ f → Fronted m.bytes.now m.at next_end f
+    front_so {f} e = found_here (walk_between m) some_level f (sym e ∙ found)
+
+    pub step_broken : r ≡ None → left w ≡ none
+    step_broken e = sym c.left_stays ∙ broken_left (walk_between m) some_level not_closed h (front_so e)
+
+    module _ {tag kind n next : ℕ} (e : r ≡ Some (Value tag kind n next)) where
+      pub step_value : Onward w.bytes.now w.ends w.levels w.at (item tag kind m.levels (m.at + item_head) n) m.ends m.levels next
+      step_value = onward_from (value_on (walk_between m) some_level not_closed h tag kind n next (front_so e))
+
+      pub behind_value : Between m.bytes.now m.ends m.levels next
+      behind_value = value_between (walk_between m) some_level not_closed h tag kind n next (front_so e)
+
+    module _ {tag n : ℕ} (e : r ≡ Some (Structure tag n)) where
+      pub structure_fits : m.at + item_head + n ≤ length m.bytes.now
+      structure_fits = let i = (front_so e).inside in let l = end_inside (walk_between m) some_level in omega arith
+
+      module _ (spaces : length m.ends ≡ suc deepest) where
+        pub step_structure : Onward w.bytes.now w.ends w.levels w.at (item tag ttlv.Structure m.levels (m.at + item_head) n)
+            (set m.ends m.levels (m.at + item_head + n)) (m.levels + 1) (m.at + item_head)
+        step_structure = onward_from (structure_on (walk_between m) some_level not_closed h tag n spaces (front_so e))
+
+        pub in_structure : Between m.bytes.now (set m.ends m.levels (m.at + item_head + n)) (m.levels + 1) (m.at + item_head)
+        in_structure = structure_between (walk_between m) some_level not_closed h tag n spaces (front_so e)
 
 -- ------------------------------------------------------------------------
 -- Bytes that give a list are items, and the other way
