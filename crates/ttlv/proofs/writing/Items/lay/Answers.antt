@@ -9,7 +9,7 @@ use Rattle.ttlv.specs.Writing.{deeper, room_for}
 use Rattle.ttlv.specs.Pieces.{with_length, Layable}
 use Rattle.ttlv.proofs.ItemLoopLaws.{no_item}
 use Rattle.ttlv.proofs.LayLaws.{Laying, Piece, lay_start, left_fits, lay_end, piece_inside, piece_room, piece_lent, lay_more, first_lent}
-use Rattle.ttlv.proofs.writing.lay.Goals as goal
+use Rattle.ttlv.proofs.writing.Items.lay.Goals as goal
 
 -- an item is written next
 piece_of : {is left behind : List Item} {values out₀ out : List ℕ} {at : ℕ} {w p : Item} → Layable is values out₀
@@ -18,10 +18,10 @@ piece_of : {is left behind : List Item} {values out₀ out : List ℕ} {at : ℕ
 piece_of able so_far step written = record { so_far = rw (← step) so_far; fits = able.room; is_piece = written }
 
 pub loop-left-init : goal.loop-left-init
-loop-left-init c = lay_start _ _ _ c.requires
+loop-left-init c = lay_start _ _ _ c.requires c.args.self.few
 
-pub as_written-item-requires-clause-fits : goal.as_written-item-requires-clause-fits
-as_written-item-requires-clause-fits c =
+pub as_written-item-requires : goal.as_written-item-requires
+as_written-item-requires c =
     let step = first_lent c.loop-left.left.now c.from.result c.from.ensures c.in-len1-up.len_at_least in
     left_fits c.from.result c.loop-left.invariant c.requires.fits step
 
