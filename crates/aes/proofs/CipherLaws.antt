@@ -3,15 +3,17 @@
 use mathlib.Core.Path.{◌≡◌, refl, sym, ap, ap₂, ◌∙◌}
 use mathlib.Core.List.{List}
 use mathlib.Core.Bool.{cond}
+use mathlib.Core.Logic.{by_cases}
 use Prim.Native.Nat.{ℕ, zero, suc, ◌≤◌}
 use native.Mathlib.Omega.{arith}
+use native.Mathlib.Decide.{ℕ_discrete}
 use lib.ListN.{length, get_or}
 use lib.Dec.{eqb}
-use borrow.Author.Tests.{eq-eqb}
+use borrow.Author.Tests.{eq-eqb, ne_eqb}
 use Rattle.rules.specs.Aes.{◌⊞◌, sub_bytes, inv_sub_bytes, shift_rows, inv_shift_rows, mix_columns, inv_mix_columns, add_round_key, key_expansion}
 use Rattle.rules.specs.Aes.{round_key}
 use Rattle.rules.specs.Aes.{rounds, cipher_with, inv_rounds, inv_cipher_with, cipher, inv_cipher}
-use Rattle.rules.specs.AesPromises.{Bytes}
+use Rattle.rules.specs.AesPromises.{Small, Bytes}
 use Rattle.fips197.specs.Boxes.{sbox, inv_sbox}
 use Rattle.fips197.proofs.BytesLaws.{listed, from}
 use Rattle.fips197.proofs.RoundLaws.{inv_mix-⊞, inv_mix_bytes, key_bytes}
@@ -116,30 +118,31 @@ module _ (w : List ℕ) (hw : Bytes 240 w) where
 -- Under a key of 32 bytes
 
 module _ (k : List ℕ) (hk : Bytes 32 k) (s : Block) (hs : Fit s) where
-  pub cipher_is : cipher_by mix_table sbox (expanded_by sbox (words_of k 8) 52) s ≡ block_of (cipher k (bytes_of s))
+  cipher_is : cipher_by mix_table sbox (expanded_by sbox (words_of k 8) 52) s ≡ block_of (cipher k (bytes_of s))
   unfolding cipher
   cipher_is =
       ap₂ (cipher_by mix_table sbox) (schedule_is k hk) (sym (block_whole s hs))
       ∙ cipher_by_is (key_expansion k) (expansion_bytes k hk) (bytes_of s) (block_bytes s)
 
-  pub inv_cipher_is : inv_cipher_by inv_mix_table inv_sbox (unmixed_by inv_mix_table sbox (expanded_by sbox (words_of k 8) 52)) s
+  inv_cipher_is : inv_cipher_by inv_mix_table inv_sbox (unmixed_by inv_mix_table sbox (expanded_by sbox (words_of k 8) 52)) s
       ≡ block_of (inv_cipher k (bytes_of s))
   unfolding inv_cipher
   inv_cipher_is =
       ap₂ (λ w x. inv_cipher_by inv_mix_table inv_sbox (unmixed_by inv_mix_table sbox w) x) (schedule_is k hk) (sym (block_whole s hs))
       ∙ inv_cipher_by_is (key_expansion k) (expansion_bytes k hk) (bytes_of s) (block_bytes s)
 
--- as the code has it: over the words that it expanded
-module _ (k : List ℕ) (hk : Bytes 32 k) (s : Block) (hs : Fit s) (before w : List ℕ)
-    (e : w ≡ cond (eqb (length k) 32) (expanded_by sbox (words_of k 8) 52) before) where
-  words : w ≡ expanded_by sbox (words_of k 8) 52
-  words = e ∙ (rw (eq-eqb (length k) 32 hk.long))
+-- as the code has it: under any key
+module _ (k : List ℕ) (small : Small k) (s : Block) (hs : Fit s) (r : Block) (other : (length k ≡ 32 → ⊥) → r ≡ s) where
+  under : (t : Block) → (Bytes 32 k → r ≡ t) → r ≡ cond (eqb (length k) 32) t s
+  under t told =
+      by_cases (ℕ_discrete (length k) 32)
+      (λ e. told (record { long = e; small = small }) ∙ (rw (eq-eqb (length k) 32 e)))
+      (λ n. other n ∙ (rw (ne_eqb (length k) 32 n)))
 
-  pub coded : cipher_by mix_table sbox w s ≡ cond (eqb (length k) 32) (block_of (cipher k (bytes_of s))) s
-  coded = ap (λ l. cipher_by mix_table sbox l s) words ∙ cipher_is k hk s hs ∙ (rw (eq-eqb (length k) 32 hk.long))
+  pub coded : (length k ≡ 32 → r ≡ cipher_by mix_table sbox (expanded_by sbox (words_of k 8) 52) s)
+      → r ≡ cond (eqb (length k) 32) (block_of (cipher k (bytes_of s))) s
+  coded told = under _ (λ hk. told hk.long ∙ cipher_is k hk s hs)
 
-  pub decoded : (u : List ℕ) → u ≡ unmixed_by inv_mix_table sbox w
-      → inv_cipher_by inv_mix_table inv_sbox u s ≡ cond (eqb (length k) 32) (block_of (inv_cipher k (bytes_of s))) s
-  decoded u f =
-      ap (λ l. inv_cipher_by inv_mix_table inv_sbox l s) (f ∙ ap (unmixed_by inv_mix_table sbox) words)
-      ∙ inv_cipher_is k hk s hs ∙ (rw (eq-eqb (length k) 32 hk.long))
+  pub decoded : (length k ≡ 32 → r ≡ inv_cipher_by inv_mix_table inv_sbox (unmixed_by inv_mix_table sbox (expanded_by sbox (words_of k 8) 52)) s)
+      → r ≡ cond (eqb (length k) 32) (block_of (inv_cipher k (bytes_of s))) s
+  decoded told = under _ (λ hk. told hk.long ∙ inv_cipher_is k hk s hs)

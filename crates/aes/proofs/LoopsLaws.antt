@@ -1,21 +1,25 @@
 -- What the loops over the words keep.
 -- Assumes nothing.
 use mathlib.Core.Path.{◌≡◌, refl, sym, ap, ap₂, ◌∙◌}
-use mathlib.Core.List.{List, [], ◌∷◌, ◌++◌, map, append_assoc}
+use mathlib.Core.List.{List, [], ◌∷◌, ◌++◌, map}
 use Prim.Native.Nat.{ℕ, zero, suc, ◌+◌, ◌-◌, ◌*◌, ◌≤◌, ◌<◌}
+use native.Mathlib.Nat.{add-zero}
 use native.Mathlib.Numerals.{add-one}
 use native.Mathlib.Omega.{arith}
-use lib.ListN.{length, get_or, take, drop, set, take-append-drop, length-append, length-drop}
-use lib.Seq.{get_or-take, get_or_at, drop-cons, take_at, length-take-le}
+use lib.ListN.{length, get_or, take, drop, set}
+use lib.Seq.{get_or-take, get_or-drop, take-suc-set, drop-drop}
+use lib.Dec.{lit<}
+use Rattle.std.specs.Int.{w32, from_be_bytes}
+use Rattle.std.specs.Simd.{first_chunks}
+use borrow.Rule.Slice.PartMut.{put_mid, mid_of}
 use Rattle.cells.specs.Cells.{part, write}
-use Rattle.cells.proofs.CellsLaws.{grow, copy_more}
+use Rattle.cells.proofs.CellsLaws.{grow}
 use Rattle.rules.specs.AesBytes.{◌⊕◌}
-use Rattle.rules.specs.Aes.{round_constants}
-use Rattle.fips197.proofs.KeyLaws.{are_small}
-use Rattle.aes.specs.Words.{word_at}
-use Rattle.aes.specs.ByTables.{mirrored, key_at, round_of, rounds_by, back_by, words_of, turned_by, expanded_by, unmixed_word, unmixed_by}
+use Rattle.aes.specs.Words.{word4, word_at}
+use Rattle.aes.specs.ByTables.{mirrored, key_at, round_of, last_of, rounds_with, ciphered, rounds_by, back_by, cipher_by, inv_cipher_by, words_of, turned_by, expanded_by, unmixed_word, unmixed_by}
 use Rattle.aes.specs.declared.Block.{Block}
-use Rattle.aes.proofs.ExpandingLaws.{words_length, words_more, front_size, mid_size, unmixed_mid}
+use Rattle.aes.proofs.WordsLaws.{from_bytes}
+use Rattle.aes.proofs.ExpandingLaws.{words_length, words_more}
 
 -- four stores behind each other
 stores : (a : ℕ) (p q r s : ℕ) (xs : List ℕ) → suc (suc (suc a)) < length xs
@@ -37,24 +41,66 @@ set_four a p q r s xs h =
     let g : a + 3 ≡ suc (suc (suc a)) = omega arith in
     (λ i. set (set (set (set xs a p) (e i) q) (f i) r) (g i) s) ∙ stores a p q r s xs (omega arith)
 
--- a round more, and a round less to go back
-pub rounds_more : (table w : List ℕ) (r : ℕ) (s : Block) → round_of table (rounds_by table w r s) (key_at w (r + 1)) ≡ rounds_by table w (r + 1) s
-unfolding rounds_by
-rounds_more table w r s =
-    ap (λ n. round_of table (rounds_by table w r s) (key_at w n)) (add-one r) ∙ ap (λ n. rounds_by table w n s) (sym (add-one r))
+-- word j of chunk r
+pub chunk_word : (w : List ℕ) (k r : ℕ) → r < k → (j : ℕ) → j < 4 → get_or (get_or (first_chunks 4 k w) r []) j 0 ≡ get_or w (4 * r + j) 0
+chunk_word w zero r h j l = absurd (omega arith)
+chunk_word w (suc k) zero h j l = get_or-take 4 w j 0 l ∙ (let e : j ≡ 4 * 0 + j = omega arith in ap (λ n. get_or w n 0) e)
+chunk_word w (suc k) (suc r) h j l =
+    chunk_word (drop 4 w) k r (omega arith) j l ∙ get_or-drop 4 w (4 * r + j) 0
+    ∙ (let e : 4 + (4 * r + j) ≡ 4 * suc r + j = omega arith in ap (λ n. get_or w n 0) e)
 
-pub back_more : (table w : List ℕ) (r : ℕ) (s : Block) → 0 < r → back_by table w (r - 1) (round_of table s (mirrored (key_at w r)))
-    ≡ back_by table w r s
-unfolding back_by
-back_more table w zero s h = absurd (omega arith)
-back_more table w (suc r) s h =
+-- and its four bytes as a word
+pub chunk_as_word : (xs : List ℕ) (k r : ℕ) → r < k → from_be_bytes w32 (get_or (first_chunks 4 k xs) r []) ≡ word_at xs (4 * r)
+chunk_as_word xs k r h =
+    let at : (j : ℕ) → j < 4 → get_or (get_or (first_chunks 4 k xs) r []) j 0 ≡ get_or xs (4 * r + j) 0 = chunk_word xs k r h in
+    let a = at 0 (lit< tt) ∙ ap (λ n. get_or xs n 0) (add-zero (4 * r)) in
+    let b = at 1 (lit< tt) in
+    let c = at 2 (lit< tt) in
+    let d = at 3 (lit< tt) in
+    from_bytes _ _ _ _ ∙ (λ i. word4 (a i) (b i) (c i) (d i))
+
+-- a round more
+pub rounds_more : (table : List ℕ) (key : ℕ → Block) (r : ℕ) (s : Block) → 0 < r
+    → round_of table (rounds_with table key (r - 1) s) (key r) ≡ rounds_with table key (r + 1 - 1) s
+unfolding rounds_with
+rounds_more table key zero s h = absurd (omega arith)
+rounds_more table key (suc r) s h =
     let e : suc r - 1 ≡ r = omega arith in
-    ap (λ n. back_by table w n (round_of table s (mirrored (key_at w (suc r))))) e
+    let f : suc r + 1 - 1 ≡ suc r = omega arith in
+    ap (λ n. round_of table (rounds_with table key n s) (key (suc r))) e ∙ ap (λ n. rounds_with table key n s) (sym f)
 
--- each round constant is a byte
-pub constant_fits : (j : ℕ) → get_or round_constants j 0 < 256
-unfolding round_constants
-constant_fits j = are_small round_constants refl j
+-- the rounds over the round keys of some words; and back, over them from the last
+rounds_forward : (table w : List ℕ) (n : ℕ) (s : Block) → rounds_with table (key_at w) n s ≡ rounds_by table w n s
+unfolding rounds_with rounds_by
+rounds_forward table w zero s = refl
+rounds_forward table w (suc n) s = ap (λ x. round_of table x (key_at w (suc n))) (rounds_forward table w n s)
+
+-- the first round key taken off
+first_round : (table : List ℕ) (key : ℕ → Block) (n : ℕ) (s : Block)
+    → rounds_with table key (suc n) s ≡ rounds_with table (λ r. key (suc r)) n (round_of table s (key 1))
+unfolding rounds_with
+first_round table key zero s = refl
+first_round table key (suc n) s = ap (λ x. round_of table x (key (suc (suc n)))) (first_round table key n s)
+
+rounds_backward : (table w : List ℕ) (n : ℕ) (s : Block)
+    → rounds_with table (λ r. mirrored (key_at w (suc n - r))) n s ≡ back_by table w n s
+unfolding rounds_with back_by
+rounds_backward table w zero s = refl
+rounds_backward table w (suc n) s =
+    let less : (r : ℕ) → suc (suc n) - suc r ≡ suc n - r = λ r. omega arith in
+    let front : suc (suc n) - 1 ≡ suc n = omega arith in
+    first_round table (λ r. mirrored (key_at w (suc (suc n) - r))) n s
+    ∙ (λ i. rounds_with table (λ r. mirrored (key_at w (less r i))) n (round_of table s (mirrored (key_at w (front i)))))
+    ∙ rounds_backward table w n _
+
+pub cipher_forward : (table box w : List ℕ) (s : Block) → ciphered table box (key_at w) s ≡ cipher_by table box w s
+unfolding cipher_by
+cipher_forward table box w s = ap (λ x. last_of box x (key_at w 14)) (rounds_forward table w 13 _)
+
+pub cipher_backward : (table box w : List ℕ) (s : Block)
+    → mirrored (ciphered table box (λ r. mirrored (key_at w (14 - r))) (mirrored s)) ≡ inv_cipher_by table box w s
+unfolding inv_cipher_by
+cipher_backward table box w s = ap (λ x. mirrored (last_of box x (mirrored (key_at w 0)))) (rounds_backward table w 13 _)
 
 -- the key's own words
 pub first_more : (key w : List ℕ) (i v : ℕ) → v ≡ word_at key (4 * i) → i < length w
@@ -64,54 +110,21 @@ first_more key w i v e h =
     ∙ ap (λ l. l ++ drop (i + 1) w) (ap (λ x. words_of key i ++ (x ∷ [])) e ∙ sym (words_more key i) ∙ ap (words_of key) (sym (add-one i)))
 
 -- the words behind them
-take_set : (w : List ℕ) (k v : ℕ) → k < length w → take (suc k) (set w k v) ≡ take k w ++ (v ∷ [])
-take_set [] k v h = absurd (omega arith)
-take_set (x ∷ w) zero v h = refl
-take_set (x ∷ w) (suc k) v h = ap (λ l. x ∷ l) (take_set w k v (omega arith))
-
-pub next_more : (box first w : List ℕ) (n v : ℕ) → take (n + 8) w ≡ expanded_by box first n → n + 8 < length w
-    → v ≡ get_or w n 0 ⊕ turned_by box (n + 8) (get_or w (n + 7) 0) → take (n + 1 + 8) (set w (n + 8) v) ≡ expanded_by box first (n + 1)
+pub next_more : (box first w : List ℕ) (i v : ℕ) → 8 ≤ i → i < length w → take i w ≡ expanded_by box first (i - 8)
+    → v ≡ get_or w (i - 8) 0 ⊕ turned_by box i (get_or w (i - 1) 0) → take (i + 1) (set w i v) ≡ expanded_by box first (i + 1 - 8)
 unfolding expanded_by
-next_more box first w n v e h is =
-    let at : (k : ℕ) → k < n + 8 → get_or w k 0 ≡ get_or (expanded_by box first n) k 0 =
-    λ k l. sym (get_or-take (n + 8) w k 0 l) ∙ ap (λ x. get_or x k 0) e in
-    let k : n + 1 + 8 ≡ suc (n + 8) = omega arith in
-    ap (λ m. take m (set w (n + 8) v)) k ∙ take_set w (n + 8) v h
-    ∙ ap₂ (λ l x. l ++ (x ∷ [])) e (is ∙ ap₂ (λ x y. x ⊕ turned_by box (n + 8) y) (at n (omega arith)) (at (n + 7) (omega arith)))
-    ∙ ap (expanded_by box first) (sym (add-one n))
+next_more box first w i v from h e is =
+    let n = i - 8 in
+    let old : (j k : ℕ) → j ≡ k → k < i → get_or w j 0 ≡ get_or (expanded_by box first n) k 0 =
+    λ j k f l. ap (λ x. get_or w x 0) f ∙ sym (get_or-take i w k 0 l) ∙ ap (λ x. get_or x k 0) e in
+    let place : i ≡ n + 8 = omega arith in
+    let before = old (i - 1) (n + 7) (omega arith) (omega arith) in
+    let all : suc n ≡ i + 1 - 8 = omega arith in
+    ap (λ m. take m (set w i v)) (add-one i) ∙ take-suc-set w i v h
+    ∙ ap₂ (λ l x. l ++ (x ∷ [])) e (is ∙ (λ k. old n n refl (omega arith) k ⊕ turned_by box (place k) (before k)))
+    ∙ ap (expanded_by box first) all
 
 -- the words mixed back
-module _ (table box w : List ℕ) (long : length w ≡ 60) where
-  abbrev new : List ℕ
-  new = unmixed_by table box w
-
-  pub unmix_start : w ≡ take 4 new ++ drop 4 w
-  unfolding unmixed_by
-  unmix_start =
-      sym (take-append-drop 4 w) ∙ ap (λ l. l ++ drop 4 w) (sym (take_at (take 4 w) _ 4 (front_size table box w long)))
-
-  new_size : length new ≡ 60
-  unfolding unmixed_by
-  new_size =
-      simp length-append
-      (omega (arith, front_size table box w long, mid_size table box w long, length-drop 56 w))
-
-  pub unmix_more : (i v : ℕ) → 4 ≤ i → i < 56 → v ≡ unmixed_word table box (get_or (take i new ++ drop i w) i 0)
-      → set (take i new ++ drop i w) i v ≡ take (i + 1) new ++ drop (i + 1) w
-  unmix_more i v from to e =
-      let k : 4 + (i - 4) ≡ i = omega arith in
-      let l : length (take i new) ≡ i = length-take-le i new (omega (arith, new_size)) in
-      let old : get_or (take i new ++ drop i w) i 0 ≡ get_or w i 0 =
-      ap (λ r. get_or (take i new ++ r) i 0) (drop-cons w i 0 (omega arith)) ∙ get_or_at (take i new) _ _ 0 i l in
-      let here : v ≡ get_or new i 0 =
-      e ∙ ap (unmixed_word table box) (old ∙ ap (λ j. get_or w j 0) (sym k))
-      ∙ sym (unmixed_mid table box w long (i - 4) (omega arith)) ∙ ap (λ j. get_or new j 0) k in
-      ap (set (take i new ++ drop i w) i) here ∙ copy_more w new i (omega (arith, new_size)) (omega arith)
-
-  pub unmix_end : take 56 new ++ drop 56 w ≡ new
-  unfolding unmixed_by
-  unmix_end =
-      let front : List ℕ = take 4 w ++ map (unmixed_word table box) (part 4 52 w) in
-      let l : length front ≡ 56 = simp length-append (omega (arith, front_size table box w long, mid_size table box w long)) in
-      let e : new ≡ front ++ drop 56 w = sym (append_assoc (take 4 w) (map (unmixed_word table box) (part 4 52 w)) (drop 56 w)) in
-      ap (λ x. take 56 x ++ drop 56 w) e ∙ ap (λ x. x ++ drop 56 w) (take_at front (drop 56 w) 56 l) ∙ sym e
+pub unmix_end : (table box w : List ℕ) → put_mid 4 52 w (map (unmixed_word table box) (mid_of 4 52 w)) ≡ unmixed_by table box w
+unfolding unmixed_by part
+unmix_end table box w = ap (λ l. take 4 w ++ (map (unmixed_word table box) (take 52 (drop 4 w)) ++ l)) (drop-drop 52 4 w)

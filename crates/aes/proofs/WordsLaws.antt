@@ -3,10 +3,13 @@
 -- Assumes nothing.
 use mathlib.Core.Path.{◌≡◌, sym, ap, ap₂, ◌∙◌}
 use mathlib.Core.List.{List, [], ◌∷◌, ◌++◌}
-use Prim.Native.Nat.{ℕ, ◌+◌, ◌*◌, ◌/◌, ◌%◌, ◌<◌}
+use Prim.Native.Nat.{ℕ, ◌+◌, ◌*◌, ◌/◌, ◌%◌, ◌^◌, ◌<◌}
+use Rattle.std.specs.Int.{w32, from_be_bytes, rotate_left, rotate_right}
+use Rattle.std.proofs.lemmas.Nat.{or_comm, or_shifted}
+use Rattle.std.proofs.Math.Nat.{add_comm}
 use native.Mathlib.Nat.{div-div-eq-div-mul}
 use native.Mathlib.Omega.{arith}
-use lib.Bits.{bit_xor, xor_block}
+use lib.Bits.{bit_or, bit_xor, xor_block}
 use Rattle.rules.specs.Fields.{four_bytes}
 use Rattle.rules.specs.AesBytes.{◌⊕◌}
 use Rattle.rules.specs.AesPromises.{Bytes}
@@ -53,6 +56,31 @@ module _ (a b c d : ℕ) (ha : a < 256) (hb : b < 256) (hc : c < 256) (hd : d < 
 
   pub turned3_word : turned3 (word4 a b c d) ≡ word4 b c d a
   turned3_word = omega arith
+
+-- what the library calls these
+pub from_bytes : (a b c d : ℕ) → from_be_bytes w32 (a ∷ b ∷ c ∷ d ∷ []) ≡ word4 a b c d
+from_bytes a b c d = omega arith
+
+pub high_byte : (a : ℕ) → from_be_bytes w32 (a ∷ 0 ∷ 0 ∷ 0 ∷ []) ≡ a * 16777216
+high_byte a = omega arith
+
+rotated : (w k j m : ℕ) → w * m % 4294967296 ≡ w % 2 ^ j * 2 ^ k → w / 2 ^ j < 2 ^ k
+    → bit_or (w / 2 ^ j) (w * m % 4294967296) ≡ w / 2 ^ j + w % 2 ^ j * 2 ^ k
+rotated w k j m e h =
+    ap (bit_or (w / 2 ^ j)) e ∙ or_comm (w / 2 ^ j) (w % 2 ^ j * 2 ^ k) ∙ or_shifted (w % 2 ^ j) k (w / 2 ^ j) h
+    ∙ add_comm (w % 2 ^ j * 2 ^ k) (w / 2 ^ j)
+
+pub rotated1 : (w : ℕ) → w < 4294967296 → rotate_right w32 w 8 ≡ turned1 w
+rotated1 w h = rotated w 24 8 16777216 (omega arith) (omega arith)
+
+pub rotated2 : (w : ℕ) → w < 4294967296 → rotate_right w32 w 16 ≡ turned2 w
+rotated2 w h = rotated w 16 16 65536 (omega arith) (omega arith)
+
+pub rotated3 : (w : ℕ) → w < 4294967296 → rotate_right w32 w 24 ≡ turned3 w
+rotated3 w h = rotated w 8 24 256 (omega arith) (omega arith)
+
+pub rotated_left : (w : ℕ) → w < 4294967296 → rotate_left w32 w 8 ≡ turned3 w
+rotated_left w h = or_comm (w * 256 % 4294967296) (w / 16777216) ∙ rotated3 w h
 
 -- byte by byte
 pub xor_word : (a b c d x y z t : ℕ) → b < 256 → c < 256 → d < 256 → y < 256 → z < 256 → t < 256

@@ -1,7 +1,7 @@
 -- The cipher by look-ups, over any tables: what the code does with those that it
 -- is lent. With the right ones it is FIPS 197's (proofs/CipherLaws.antt).
 -- Assumes nothing.
-use Rattle.std.specs.Prelude.{cond, List, [], ◌∷◌, ◌++◌, map, ℕ, zero, suc, ◌+◌, ◌-◌, ◌*◌, ◌/◌, ◌%◌, get_or, take, drop, eqb}
+use Rattle.std.specs.Prelude.{cond, List, [], ◌∷◌, ◌++◌, map, ℕ, zero, suc, ◌+◌, ◌-◌, ◌*◌, ◌≤◌, ◌≡◌, ◌/◌, ◌%◌, get_or, take, drop, eqb}
 use Rattle.cells.specs.Cells.{part}
 use Rattle.rules.specs.AesBytes.{◌⊕◌}
 use Rattle.rules.specs.Aes.{round_constants}
@@ -67,6 +67,17 @@ rounds_by table w (suc r) s = round_of table (rounds_by table w r s) (key_at w (
 unfoldable pub back_by : List ℕ → List ℕ → ℕ → Block → Block
 back_by table w zero s = s
 back_by table w (suc r) s = back_by table w r (round_of table s (mirrored (key_at w (suc r))))
+
+-- the round keys that a function gives, and the same over them
+abbrev pub Gives : (ℕ → Block → Type 0) → (ℕ → Block) → Type 0
+Gives post key = (r : ℕ) (k : Block) → r ≤ 14 → post r k → k ≡ key r
+
+unfoldable pub rounds_with : List ℕ → (ℕ → Block) → ℕ → Block → Block
+rounds_with table key zero s = s
+rounds_with table key (suc r) s = round_of table (rounds_with table key r s) (key (suc r))
+
+abbrev pub ciphered : List ℕ → List ℕ → (ℕ → Block) → Block → Block
+ciphered table box key s = last_of box (rounds_with table key 13 (added s (key 0))) (key 14)
 
 unfoldable pub cipher_by : List ℕ → List ℕ → List ℕ → Block → Block
 cipher_by table box w s = last_of box (rounds_by table w 13 (added s (key_at w 0))) (key_at w 14)

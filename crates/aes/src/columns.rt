@@ -1,156 +1,137 @@
 // The steps of a round, a column at a time.
-ghost use Rattle.std.specs.Prelude.{◌≡◌, ◌≤◌, ◌<◌};
-ghost use Rattle.aes.specs.Words.{Fit};
-ghost use Rattle.aes.specs.ByTables.{turned1, turned2, turned3, column_of, substituted_of};
-ghost use Rattle.aes.specs.ByTables.{added as addedOf, mirrored as mirroredOf, round_of, last_of, key_at};
-ghost use Rattle.aes.specs.ByTables.{rounds_by, back_by};
+ghost use Rattle.std.specs.Prelude.{◌≡◌, [], ◌∷◌, ℕ, ◌/◌, ◌%◌, ◌≤◌};
+ghost use Rattle.aes.specs.ByTables.{column_of, substituted_of};
+ghost use Rattle.aes.specs.ByTables.{added, mirrored as mirroredOf, round_of, last_of, key_at, Gives, rounds_with, ciphered};
 
 use crate::{Block, SCHEDULE};
+use std::ops::BitXor;
 
-// A word turned right by one, two and three bytes.
-fn turned_1(w: u32) -> u32
-    ensures { result ≡ turned1 w }
+// Words of a block, and so of a round key.
+pub(crate) const BLOCK_WORDS: usize = 4;
+
+// The round that does not mix.
+pub(crate) const LAST_ROUND: usize = 14;
+
+// What a column is made of: the first byte of a, the second of b, the third of c and the last of d.
+fn diagonal(a: u32, b: u32, c: u32, d: u32) -> [u8; 4]
+    ensures { result ≡ a / 16777216 ∷ b / 65536 % 256 ∷ c / 256 % 256 ∷ d % 256 ∷ [] }
 {
-    w / 256 + w % 256 * 16777216
+    let [x, ..] = a.to_be_bytes();
+    let [_, y, ..] = b.to_be_bytes();
+    let [.., z, _] = c.to_be_bytes();
+    let [.., t] = d.to_be_bytes();
+    [x, y, z, t]
 }
 
-fn turned_2(w: u32) -> u32
-    ensures { result ≡ turned2 w }
-{
-    w / 65536 + w % 65536 * 65536
-}
-
-pub(crate) fn turned_3(w: u32) -> u32
-    ensures { result ≡ turned3 w }
-{
-    w / 16777216 + w % 16777216 * 256
-}
-
-// A mixed column, of one byte of each word.
+// A mixed column: each byte looked up, and turned to its row.
 pub(crate) fn column(table: &[u32; 256], a: u32, b: u32, c: u32, d: u32) -> u32
     ensures { result ≡ column_of table.now a b c d }
 {
-    let x = table[(a / 16777216) as usize];
-    let y = table[(b / 65536 % 256) as usize];
-    let z = table[(c / 256 % 256) as usize];
-    let t = table[(d % 256) as usize];
-    (x ^ turned_1(y)) ^ (turned_2(z) ^ turned_3(t))
-}
-
-// A byte as a word, with its bound.
-pub(crate) fn wide(b: u8) -> u32
-    ensures { (result ≡ b) × (result < 256) }
-{
-    b as u32
+    let [x, y, z, t] = diagonal(a, b, c, d);
+    let front = table[usize::from(x)] ^ table[usize::from(y)].rotate_right(8);
+    let back = table[usize::from(z)].rotate_right(16) ^ table[usize::from(t)].rotate_right(24);
+    front ^ back
 }
 
 // The same bytes substituted alone.
 pub(crate) fn substituted(sub: &[u8; 256], a: u32, b: u32, c: u32, d: u32) -> u32
     ensures { result ≡ substituted_of sub.now a b c d }
 {
-    let x = wide(sub[(a / 16777216) as usize]);
-    let y = wide(sub[(b / 65536 % 256) as usize]);
-    let z = wide(sub[(c / 256 % 256) as usize]);
-    let t = wide(sub[(d % 256) as usize]);
-    ((x * 256 + y) * 256 + z) * 256 + t
+    let [x, y, z, t] = diagonal(a, b, c, d);
+    u32::from_be_bytes([
+        sub[usize::from(x)],
+        sub[usize::from(y)],
+        sub[usize::from(z)],
+        sub[usize::from(t)],
+    ])
 }
 
-// A block, with the bounds of its words.
-pub(crate) fn whole(s: Block) -> Block
-    ensures { (result ≡ s) × Fit s }
-{
-    Block {
-        a: s.a,
-        b: s.b,
-        c: s.c,
-        d: s.d,
+impl BitXor for Block {
+    type Output = Block;
+
+    ghost bitxor_gives = { λ s k r. r ≡ added s k };
+
+    fn bitxor(self, key: Block) -> Block {
+        Block {
+            a: self.a ^ key.a,
+            b: self.b ^ key.b,
+            c: self.c ^ key.c,
+            d: self.d ^ key.d,
+        }
     }
 }
 
-pub(crate) fn added(s: Block, k: Block) -> Block
-    ensures { result ≡ addedOf s k }
-{
-    Block {
-        a: s.a ^ k.a,
-        b: s.b ^ k.b,
-        c: s.c ^ k.c,
-        d: s.d ^ k.d,
+impl Block {
+    // The second and the last column change places.
+    pub(crate) fn mirrored(self) -> Block
+        ensures { result ≡ mirroredOf self }
+    {
+        Block {
+            a: self.a,
+            b: self.d,
+            c: self.c,
+            d: self.b,
+        }
+    }
+
+    // Each column made of a diagonal: a byte of each column, from one place on.
+    fn by_diagonals<F: Fn(u32, u32, u32, u32) -> u32>(self, column: F) -> Block
+        requires { F.IsAlwaysCallable column }
+        ensures a { F.post column self.a self.b self.c self.d result.a }
+        ensures b { F.post column self.b self.c self.d self.a result.b }
+        ensures c { F.post column self.c self.d self.a self.b result.c }
+        ensures d { F.post column self.d self.a self.b self.c result.d }
+    {
+        let Block { a, b, c, d } = self;
+        Block {
+            a: column(a, b, c, d),
+            b: column(b, c, d, a),
+            c: column(c, d, a, b),
+            d: column(d, a, b, c),
+        }
     }
 }
 
-pub(crate) fn mirrored(s: Block) -> Block
-    ensures { result ≡ mirroredOf s }
-{
-    Block {
-        a: s.a,
-        b: s.d,
-        c: s.c,
-        d: s.b,
+// The tables of one direction, lent: what the substitution of a byte adds to a mixed column, and the substitution alone.
+#[derive(Clone, Copy)]
+pub(crate) struct Tables<'a> {
+    pub(crate) mix: &'a [u32; 256],
+    pub(crate) sub: &'a [u8; 256],
+}
+
+impl Tables<'_> {
+    fn round(&self, s: Block, key: Block) -> Block
+        ensures { result ≡ round_of self.now.mix.now s key }
+    {
+        s.by_diagonals(|a, b, c, d| column(self.mix, a, b, c, d)) ^ key
+    }
+
+    // The last round does not mix.
+    fn last(&self, s: Block, key: Block) -> Block
+        ensures { result ≡ last_of self.now.sub.now s key }
+    {
+        s.by_diagonals(|a, b, c, d| substituted(self.sub, a, b, c, d)) ^ key
+    }
+
+    // The cipher under the round keys that `key` gives.
+    pub(crate) fn cipher<F: Fn(usize) -> Block>(&self, key: F, block: Block) -> Block
+        requires { (r : ℕ) → r ≤ 14 → F.pre key r }
+        ensures { (k : ℕ → Block) → Gives (F.post key) k → result ≡ ciphered self.now.mix.now self.now.sub.now k block }
+    {
+        let mut s = block ^ key(0);
+        for r in 1..LAST_ROUND {
+            s = self.round(s, key(r));
+        }
+        self.last(s, key(LAST_ROUND))
     }
 }
 
-fn round(table: &[u32; 256], s: Block, k: Block) -> Block
-    ensures { result ≡ round_of table.now s k }
-{
-    let mixed = Block {
-        a: column(table, s.a, s.b, s.c, s.d),
-        b: column(table, s.b, s.c, s.d, s.a),
-        c: column(table, s.c, s.d, s.a, s.b),
-        d: column(table, s.d, s.a, s.b, s.c),
-    };
-    added(mixed, k)
-}
-
-// The last round does not mix.
-pub(crate) fn last(sub: &[u8; 256], s: Block, k: Block) -> Block
-    ensures { result ≡ last_of sub.now s k }
-{
-    let moved = Block {
-        a: substituted(sub, s.a, s.b, s.c, s.d),
-        b: substituted(sub, s.b, s.c, s.d, s.a),
-        c: substituted(sub, s.c, s.d, s.a, s.b),
-        d: substituted(sub, s.d, s.a, s.b, s.c),
-    };
-    added(moved, k)
-}
-
+// The round key of round r.
 pub(crate) fn key_at(w: &[u32; SCHEDULE], r: usize) -> Block
     requires { r ≤ 14 }
     ensures { result ≡ key_at w.now r }
 {
-    let i = 4 * r;
-    Block {
-        a: w[i],
-        b: w[i + 1],
-        c: w[i + 2],
-        d: w[i + 3],
-    }
-}
-
-// Rounds 1 to 13.
-pub(crate) fn rounds(table: &[u32; 256], w: &[u32; SCHEDULE], start: Block) -> Block
-    ensures { result ≡ rounds_by table.now w.now 13 start }
-{
-    let mut s = start;
-    let mut r = 0;
-    while r < 13 {
-        r += 1;
-        let next = round(table, s, key_at(w, r));
-        s = next;
-    }
-    s
-}
-
-// Rounds 13 to 1, back, with the columns mirrored.
-pub(crate) fn rounds_back(table: &[u32; 256], w: &[u32; SCHEDULE], start: Block) -> Block
-    ensures { result ≡ back_by table.now w.now 13 start }
-{
-    let mut s = start;
-    let mut r = 13;
-    while r > 0 {
-        let next = round(table, s, mirrored(key_at(w, r)));
-        s = next;
-        r -= 1;
-    }
-    s
+    let (keys, _) = w.as_chunks::<BLOCK_WORDS>();
+    let [a, b, c, d] = keys[r];
+    Block { a, b, c, d }
 }

@@ -3,12 +3,13 @@
 // says what is done with whatever is lent. A look-up's time may depend on the byte (docs/KEYWRAP.md).
 #![tactic(auto)]
 
-ghost use Rattle.std.specs.Prelude.{◌≡◌, cond, eqb, length, ◌+◌};
+ghost use Rattle.std.specs.Prelude.{◌≡◌, List, ℕ, cond, eqb, length};
+ghost use Rattle.std.specs.Fn.{FnOnceReturnsAtMut};
 ghost use Rattle.cells.specs.Cells.{within, write, zeros};
 ghost use Rattle.rules.specs.Fields.{four_bytes};
 ghost use Rattle.rules.specs.Aes.{cipher_key_size, schedule_words, cipher as cipherOf, inv_cipher};
 ghost use Rattle.fips197.specs.Boxes.{sbox, inv_sbox};
-ghost use Rattle.aes.specs.Words.{word_at, block_of, bytes_of, Fit};
+ghost use Rattle.aes.specs.Words.{word_at, block_of, bytes_of};
 ghost use Rattle.aes.specs.Tables.{mix_table, inv_mix_table};
 ghost use Rattle.aes.specs.ByTables.{words_of, expanded_by, unmixed_by, cipher_by, inv_cipher_by};
 
@@ -16,6 +17,7 @@ mod columns;
 mod keys;
 mod tables;
 
+use columns::{LAST_ROUND, Tables, key_at};
 use rules::KEY_SIZE;
 
 // Four words: the columns of a state.
@@ -59,86 +61,59 @@ pub fn inv_mix_table() -> [u32; 256]
 pub fn word_at(bytes: &[u8], at: usize) -> u32
     ensures { result ≡ cond (within at 4 bytes.now) (word_at bytes.now at) 0 }
 {
-    if at > bytes.len() {
-        return 0;
+    match bytes.get(at..) {
+        Some([a, b, c, d, ..]) => u32::from_be_bytes([*a, *b, *c, *d]),
+        _ => 0,
     }
-    if bytes.len() - at < 4 {
-        return 0;
-    }
-    let a = columns::wide(bytes[at]);
-    let b = columns::wide(bytes[at + 1]);
-    let c = columns::wide(bytes[at + 2]);
-    let d = columns::wide(bytes[at + 3]);
-    ((a * 256 + b) * 256 + c) * 256 + d
 }
 
 // A word as four bytes, where there is room.
 pub fn put_word(bytes: &mut [u8], at: usize, w: u32)
     ensures { bytes.new ≡ cond (within at 4 bytes.old) (write at 4 (four_bytes w) bytes.old) bytes.old }
 {
-    if at > bytes.len() {
-        return;
+    let word = w.to_be_bytes();
+    if at <= bytes.len() && word.len() <= bytes.len() - at {
+        bytes[at..at + word.len()].copy_from_slice(&word);
     }
-    if bytes.len() - at < 4 {
-        return;
-    }
-    bytes[at] = (w / 16777216 % 256) as u8;
-    bytes[at + 1] = (w / 65536 % 256) as u8;
-    bytes[at + 2] = (w / 256 % 256) as u8;
-    bytes[at + 3] = (w % 256) as u8;
 }
 
 // The key expansion, of a key of 32 bytes; any other leaves the words alone.
-fn expand_by(sub: &[u8; 256], key: &[u8], w: &mut [u32; SCHEDULE])
-    ensures { w.new ≡ cond (eqb (length key.now) cipher_key_size)
-        (expanded_by sub.now (words_of key.now 8) 52) w.old }
-{
-    if key.len() != KEY_SIZE {
-        return;
-    }
-    keys::first_words(key, w);
-    keys::next_words(sub, w);
-}
-
-// The round keys of rounds 1 to 13 mixed back, for the inverse.
-fn unmix_by(table: &[u32; 256], sub: &[u8; 256], w: &mut [u32; SCHEDULE])
-    ensures { w.new ≡ unmixed_by table.now sub.now w.old }
-{
-    keys::unmix(table, sub, w);
-}
-
-// Both with the right tables.
 pub fn expand(key: &[u8], w: &mut [u32; SCHEDULE])
     ensures { w.new ≡ cond (eqb (length key.now) cipher_key_size)
         (expanded_by sbox (words_of key.now 8) 52) w.old }
 {
-    let sub = sub_table();
-    expand_by(&sub, key, w);
+    if let Some(key) = key.as_array() {
+        keys::first_words(key, w);
+        keys::next_words(&sub_table(), w);
+    }
 }
 
+// The round keys of rounds 1 to 13 mixed back, for the inverse.
 pub fn unmix(w: &mut [u32; SCHEDULE])
     ensures { w.new ≡ unmixed_by inv_mix_table sbox w.old }
 {
-    let table = inv_mix_table();
-    let sub = sub_table();
-    unmix_by(&table, &sub, w);
+    let tables = Tables {
+        mix: &inv_mix_table(),
+        sub: &sub_table(),
+    };
+    keys::unmix(&tables, w);
 }
 
 pub fn wipe(w: &mut [u32; SCHEDULE])
     ensures { w.new ≡ zeros schedule_words }
 {
-    keys::wipe(w);
+    w.fill(0);
 }
 
-// The cipher, and its inverse over the words mixed back.
+// The cipher over lent tables and round keys.
 pub fn cipher_by(table: &[u32; 256], sub: &[u8; 256], w: &[u32; SCHEDULE], block: Block) -> Block
     ensures { result ≡ cipher_by table.now sub.now w.now block }
 {
-    let start = columns::added(block, columns::key_at(w, 0));
-    let s = columns::rounds(table, w, start);
-    columns::last(sub, s, columns::key_at(w, 14))
+    let tables = Tables { mix: table, sub };
+    tables.cipher(|r| key_at(w, r), block)
 }
 
+// Its inverse, over round keys mixed back, is the cipher once more: with the columns mirrored, and the round keys from the last to the first.
 pub fn inv_cipher_by(
     table: &[u32; 256],
     sub: &[u8; 256],
@@ -147,27 +122,32 @@ pub fn inv_cipher_by(
 ) -> Block
     ensures { result ≡ inv_cipher_by table.now sub.now w.now block }
 {
-    let start = columns::added(block, columns::key_at(w, 14));
-    let s = columns::rounds_back(table, w, columns::mirrored(start));
-    let key = columns::mirrored(columns::key_at(w, 0));
-    columns::mirrored(columns::last(sub, s, key))
+    let tables = Tables { mix: table, sub };
+    let told = tables.cipher(|r| key_at(w, LAST_ROUND - r).mirrored(), block.mirrored());
+    told.mirrored()
 }
 
-// The same with the right tables.
-fn coded(w: &[u32; SCHEDULE], block: Block) -> Block
-    ensures { (result ≡ cipher_by mix_table sbox w.now block) × Fit block }
+// What `run` makes of the round keys of a key of 32 bytes; under any other the block stays. The round keys are wiped.
+fn keyed<F: FnOnce(&mut [u32; SCHEDULE]) -> Block>(
+    key: &[u8],
+    w: &mut [u32; SCHEDULE],
+    block: Block,
+    run: F,
+) -> Block
+    requires { F.IsAlwaysCallable run }
+    ensures told { length key.now ≡ cipher_key_size → (left : List ℕ)
+        × FnOnceReturnsAtMut F.FnOnce run (expanded_by sbox (words_of key.now 8) 52) result left }
+    ensures other { (length key.now ≡ cipher_key_size → ⊥) → result ≡ block }
+    ensures wiped { w.new ≡ zeros schedule_words }
 {
-    let table = mix_table();
-    let sub = sub_table();
-    cipher_by(&table, &sub, w, columns::whole(block))
-}
-
-fn decoded(w: &[u32; SCHEDULE], block: Block) -> Block
-    ensures { (result ≡ inv_cipher_by inv_mix_table inv_sbox w.now block) × Fit block }
-{
-    let table = inv_mix_table();
-    let inverse = inv_sub_table();
-    inv_cipher_by(&table, &inverse, w, columns::whole(block))
+    if key.len() != KEY_SIZE {
+        wipe(w);
+        return block;
+    }
+    expand(key, w);
+    let told = run(w);
+    wipe(w);
+    told
 }
 
 // FIPS 197's cipher under a key of 32 bytes; under any other a block stays. The round keys go through words that are lent, and wiped.
@@ -175,27 +155,20 @@ pub fn cipher(key: &[u8], w: &mut [u32; SCHEDULE], block: Block) -> Block
     ensures { (result ≡ cond (eqb (length key.now) cipher_key_size) (block_of (cipherOf key.now (bytes_of block))) block)
         × (w.new ≡ zeros schedule_words) }
 {
-    if key.len() != KEY_SIZE {
-        wipe(w);
-        return block;
-    }
-    expand(key, w);
-    let told = coded(w, block);
-    wipe(w);
-    told
+    keyed(
+        key,
+        w,
+        block,
+        |w| cipher_by(&mix_table(), &sub_table(), w, block),
+    )
 }
 
 pub fn inv_cipher(key: &[u8], w: &mut [u32; SCHEDULE], block: Block) -> Block
     ensures { (result ≡ cond (eqb (length key.now) cipher_key_size) (block_of (inv_cipher key.now (bytes_of block))) block)
         × (w.new ≡ zeros schedule_words) }
 {
-    if key.len() != KEY_SIZE {
-        wipe(w);
-        return block;
-    }
-    expand(key, w);
-    unmix(w);
-    let told = decoded(w, block);
-    wipe(w);
-    told
+    keyed(key, w, block, |w| {
+        unmix(w);
+        inv_cipher_by(&inv_mix_table(), &inv_sub_table(), w, block)
+    })
 }

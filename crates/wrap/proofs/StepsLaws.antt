@@ -5,7 +5,6 @@ use mathlib.Core.Bool.{cond}
 use mathlib.Core.List.{List, ◌++◌, append_assoc}
 use Prim.Native.Nat.{ℕ, zero, suc, ◌+◌, ◌-◌, ◌*◌, ◌≤◌, ◌<◌}
 use native.Mathlib.Nat.{add-zero}
-use native.Mathlib.Numerals.{add-one}
 use native.Mathlib.Omega.{arith}
 use lib.ListN.{length, get_or, take, drop}
 use lib.Seq.{get_or-append-add, drop-drop}
@@ -223,9 +222,13 @@ module _ (b : List ℕ) (hb : Bytes 16 b) where
 -- The steps
 
 -- a step more, and a step less to go back
-pub wrap_more : (f : Block → Block) (t : ℕ) (s : List ℕ) → wrap_step_by f (t + 1) (wrap_steps_by f t s) ≡ wrap_steps_by f (t + 1) s
+pub wrap_more : (f : Block → Block) (t : ℕ) (s : List ℕ) → 0 < t → wrap_step_by f t (wrap_steps_by f (t - 1) s) ≡ wrap_steps_by f (t + 1 - 1) s
 unfolding wrap_steps_by
-wrap_more f t s = ap (λ n. wrap_step_by f n (wrap_steps_by f t s)) (add-one t) ∙ ap (λ n. wrap_steps_by f n s) (sym (add-one t))
+wrap_more f zero s h = absurd (omega arith)
+wrap_more f (suc t) s h =
+    let e : suc t - 1 ≡ t = omega arith in
+    let k : suc t ≡ suc t + 1 - 1 = omega arith in
+    ap (λ n. wrap_step_by f (suc t) (wrap_steps_by f n s)) e ∙ ap (λ n. wrap_steps_by f n s) k
 
 pub unwrap_more : (f : Block → Block) (t : ℕ) (s : List ℕ) → 0 < t → unwrap_steps_by f (t - 1) (unwrap_step_by f t s) ≡ unwrap_steps_by f t s
 unfolding unwrap_steps_by

@@ -1,7 +1,7 @@
 -- The steps of key wrap over words: what the code does with whatever takes a block
 -- to a block. With the cipher they are RFC 3394's (proofs/StepsLaws.antt).
 -- Assumes nothing.
-use Rattle.std.specs.Prelude.{List, ℕ, zero, suc, ◌+◌, ◌*◌}
+use Rattle.std.specs.Prelude.{List, ℕ, zero, suc, ◌+◌, ◌*◌, ◌≡◌}
 use Rattle.cells.specs.Cells.{write}
 use Rattle.rules.specs.Fields.{four_bytes}
 use Rattle.rules.specs.AesBytes.{◌⊕◌}
@@ -31,6 +31,10 @@ wrap_step_by f t s = put_block (start_of t) (counted t (f (block_at (start_of t)
 
 abbrev pub unwrap_step_by : (Block → Block) → ℕ → List ℕ → List ℕ
 unwrap_step_by f t s = put_block (start_of t) (f (counted t (block_at (start_of t) s))) s
+
+-- what is told of each call is that f is computed
+abbrev pub Computes : (Block → Block → Type 0) → (Block → Block) → Type 0
+Computes post f = (x y : Block) → post x y → y ≡ f x
 
 -- steps 1 to t; and t to 1
 unfoldable pub wrap_steps_by : (Block → Block) → ℕ → List ℕ → List ℕ

@@ -1,12 +1,11 @@
 // AES key wrap (RFC 3394) of keys of 32 bytes under keys of 32 bytes, in place. The round keys go through words that are lent, and wiped.
 #![tactic(auto)]
 
-ghost use Rattle.std.specs.Prelude.{◌≡◌, ◌&&◌, ◌++◌, eqb, length, drop};
+ghost use Rattle.std.specs.Prelude.{◌≡◌};
 ghost use Rattle.cells.specs.Cells.{zeros};
-ghost use Rattle.rules.specs.Numbers.{kek_size, wrapped_size};
-ghost use Rattle.rules.specs.Aes.{schedule_words, key_expansion};
-ghost use Rattle.rules.specs.KeyWrap.{wrap_steps, unwrap_steps, initial_value};
-ghost use Rattle.wrap.specs.Wrapping.{wrapped_in, opened_in};
+ghost use Rattle.rules.specs.Aes.{schedule_words};
+ghost use Rattle.rules.specs.KeyWrap.{checked};
+ghost use Rattle.wrap.specs.Wrapping.{wrapped_in, told, opened_in};
 
 use aes::SCHEDULE;
 use rules::{KEK_SIZE, WRAPPED_SIZE};
@@ -16,17 +15,12 @@ mod steps;
 // Bytes of the integrity value, before the key.
 pub const VALUE_SIZE: usize = 8;
 
-const INITIAL_VALUE: [u8; VALUE_SIZE] = *b"\xA6\xA6\xA6\xA6\xA6\xA6\xA6\xA6";
+const INITIAL_VALUE: u64 = 0xA6A6_A6A6_A6A6_A6A6;
 
 // Wraps the key that the last 32 of 40 bytes hold; where a size is wrong, nothing.
 pub fn wrap(kek: &[u8], bytes: &mut [u8], w: &mut [u32; SCHEDULE])
     ensures { (bytes.new ≡ wrapped_in kek.now bytes.old) × (w.new ≡ zeros schedule_words) }
 {
-    if !sized(kek.len(), bytes.len()) {
-        aes::wipe(w);
-        return;
-    }
-    begin(bytes);
     seal(kek, bytes, w);
     aes::wipe(w);
 }
@@ -36,48 +30,50 @@ pub fn unwrap(kek: &[u8], bytes: &mut [u8], w: &mut [u32; SCHEDULE]) -> bool
     ensures { (record { opened = result; bytes = bytes.new } ≡ opened_in kek.now bytes.old) ×
         (w.new ≡ zeros schedule_words) }
 {
-    if !sized(kek.len(), bytes.len()) {
-        aes::wipe(w);
+    let opened = unseal(kek, bytes, w);
+    aes::wipe(w);
+    opened
+}
+
+// The integrity value at the front, then the steps; the round keys stay in the words.
+fn seal(kek: &[u8], bytes: &mut [u8], w: &mut [u32; SCHEDULE])
+    ensures { bytes.new ≡ wrapped_in kek.now bytes.old }
+{
+    if kek.len() != KEK_SIZE {
+        return;
+    }
+    if let Some(bytes) = bytes.as_mut_array() {
+        bytes[..VALUE_SIZE].copy_from_slice(&INITIAL_VALUE.to_be_bytes());
+        aes::expand(kek, w);
+        steps::wrap_all(w, bytes);
+    }
+}
+
+// The steps back, then the integrity value is looked at.
+fn unseal(kek: &[u8], bytes: &mut [u8], w: &mut [u32; SCHEDULE]) -> bool
+    ensures { record { opened = result; bytes = bytes.new } ≡ opened_in kek.now bytes.old }
+{
+    if kek.len() != KEK_SIZE {
         return false;
     }
-    unseal(kek, bytes, w);
-    aes::wipe(w);
-    let initial = INITIAL_VALUE;
-    if cells::same_part(bytes, 0, VALUE_SIZE, &initial) {
-        return true;
-    }
-    cells::fill_zero(bytes);
-    false
-}
-
-fn sized(kek: usize, bytes: usize) -> bool
-    ensures { result ≡ eqb kek kek_size && eqb bytes wrapped_size }
-{
-    (kek == KEK_SIZE) & (bytes == WRAPPED_SIZE)
-}
-
-// The integrity value at the front.
-fn begin(bytes: &mut [u8])
-    requires { length bytes.old ≡ wrapped_size }
-    ensures { bytes.new ≡ initial_value ++ drop 8 bytes.old }
-{
-    let initial = INITIAL_VALUE;
-    cells::copy(&mut bytes[0..VALUE_SIZE], &initial);
-}
-
-fn seal(kek: &[u8], bytes: &mut [u8], w: &mut [u32; SCHEDULE])
-    requires { (length kek.now ≡ kek_size) × (length bytes.old ≡ wrapped_size) }
-    ensures { bytes.new ≡ wrap_steps (key_expansion kek.now) 24 bytes.old }
-{
-    aes::expand(kek, w);
-    steps::wrap_all(w, bytes);
-}
-
-fn unseal(kek: &[u8], bytes: &mut [u8], w: &mut [u32; SCHEDULE])
-    requires { (length kek.now ≡ kek_size) × (length bytes.old ≡ wrapped_size) }
-    ensures { bytes.new ≡ unwrap_steps (key_expansion kek.now) 24 bytes.old }
-{
+    let Some(bytes) = bytes.as_mut_array() else {
+        return false;
+    };
     aes::expand(kek, w);
     aes::unmix(w);
     steps::unwrap_all(w, bytes);
+    checked(bytes)
+}
+
+// Whether the integrity value came out, all of which is looked at whatever it is; if not, zeros.
+fn checked(bytes: &mut [u8; WRAPPED_SIZE]) -> bool
+    ensures { record { opened = result; bytes = bytes.new } ≡ told (checked bytes.old) }
+{
+    let opened = bytes
+        .first_chunk()
+        .is_some_and(|value| u64::from_be_bytes(*value) == INITIAL_VALUE);
+    if !opened {
+        bytes.fill(0);
+    }
+    opened
 }

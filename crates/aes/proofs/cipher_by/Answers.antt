@@ -1,13 +1,12 @@
--- `aes::cipher_by` meets its contract: the first key, thirteen rounds, the last.
+-- `aes::cipher_by` meets its contract: the round keys in order.
 -- Assumes nothing.
-use mathlib.Core.Path.{ap, ap₂, ◌∙◌}
-use Rattle.aes.specs.ByTables.{added, rounds_by, last_of, cipher_by}
+use mathlib.Core.Path.{◌∙◌}
+use Rattle.std.proofs.Common.{rules}
+use Rattle.aes.specs.ByTables.{key_at}
+use Rattle.aes.proofs.LoopsLaws.{cipher_forward}
 use Rattle.aes.proofs.cipher_by.Goals as goal
 
 pub returns : goal.returns
-unfolding cipher_by
 returns c =
     let s = c.args in
-    let first = c.added-start.ensures ∙ ap (added s.block) c.key_at.ensures in
-    let mid = c.rounds-s.ensures ∙ ap (rounds_by s.table.now s.w.now 13) first in
-    c.last.ensures ∙ ap₂ (last_of s.sub.now) mid c.key_at-2.ensures
+    c.cipher.ensures (key_at s.w.now) (λ r k h p. search rules) ∙ cipher_forward s.table.now s.sub.now s.w.now s.block

@@ -1,21 +1,24 @@
--- `aes::inv_cipher` meets its contract: the key's round keys mixed back, the inverse over them, the words wiped.
+-- `aes::inv_cipher` meets its contract: the inverse over the key's round keys mixed back.
 -- Assumes nothing.
-use mathlib.Core.Path.{◌∙◌}
+use mathlib.Core.Path.{◌≡◌, ap, ◌∙◌}
 use native.Mathlib.Omega.{arith}
-use borrow.Author.Tests.{ne_eqb}
-use Rattle.rules.specs.AesPromises.{Bytes}
+use lib.ListN.{length}
+use Rattle.std.proofs.Common.{rules}
+use Rattle.fips197.specs.Boxes.{sbox, inv_sbox}
+use Rattle.aes.specs.Words.{Fit}
+use Rattle.aes.specs.Tables.{inv_mix_table}
+use Rattle.aes.specs.ByTables.{words_of, expanded_by, unmixed_by, inv_cipher_by}
 use Rattle.aes.proofs.CipherLaws.{decoded}
 use Rattle.aes.proofs.inv_cipher.Goals as goal
 
-pub returns-then-key-ne-KEY_SIZE : goal.returns-then-key-ne-KEY_SIZE
-returns-then-key-ne-KEY_SIZE c =
-    ((rw (ne_eqb _ _ c.if-key-ne-KEY_SIZE.true)), c.wipe.ensures)
-
 pub returns : goal.returns
 returns c =
-    let s = c.args in
-    let key : Bytes 32 s.key.now = record { long = c.if-key-ne-KEY_SIZE.false; small = λ i. omega (arith, c.shared_slice_known-1.given i) } in (
-      c.decoded-told.ensures.0
-          ∙ decoded s.key.now key s.block c.decoded-told.ensures.1 s.w.now _ c.expand.ensures _ c.unmix.ensures,
-      c.wipe-2.ensures,
-    )
+    let key = c.args.key.now in
+    let s = c.args.block in
+    let fit : Fit s = record { a = search rules; b = search rules; c = search rules; d = search rules } in
+    let told : length key ≡ 32 → c.keyed.result ≡ inv_cipher_by inv_mix_table inv_sbox (unmixed_by inv_mix_table sbox (expanded_by sbox (words_of key 8) 52)) s =
+    λ e.
+    let h = (c.keyed.ensures.told e).1 in
+    let run : c.keyed.result ≡ inv_cipher_by inv_mix_table inv_sbox (unmixed_by inv_mix_table sbox h.shown.now) s = search rules in
+    run ∙ ap (λ w. inv_cipher_by inv_mix_table inv_sbox (unmixed_by inv_mix_table sbox w) s) h.shows in
+    (decoded key (λ i. omega (arith, c.type_inv.key i)) s fit c.keyed.result c.keyed.ensures.other told, c.keyed.ensures.wiped)

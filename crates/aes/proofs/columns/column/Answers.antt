@@ -1,16 +1,23 @@
--- `aes::columns::column` meets its contract: each look-up is one of the definition.
+-- `aes::columns::column` meets its contract: each look-up is one of the definition, turned to its row.
 -- Assumes nothing.
-use Prim.Native.Nat.{◌/◌}
+use mathlib.Core.Path.{ap, ◌∙◌}
+use native.Mathlib.Omega.{arith}
 use lib.ListN.{get_or}
-use Rattle.rules.specs.AesBytes.{◌⊕◌}
 use lib.Bits.{bit_xor}
-use Rattle.aes.specs.ByTables.{column_of}
+use Rattle.rules.specs.AesBytes.{◌⊕◌}
+use Rattle.aes.specs.ByTables.{column_of, turned1, turned2, turned3}
+use Rattle.aes.proofs.WordsLaws.{rotated1, rotated2, rotated3}
 use Rattle.aes.proofs.columns.column.Goals as goal
 
 pub returns : goal.returns
 unfolding column_of ◌⊕◌
 returns c =
-    let e = c.turned_1.ensures in
-    let f = c.turned_2.ensures in
-    let g = c.turned_3.ensures in
-    λ i. bit_xor (bit_xor (get_or c.args.table.now (c.args.a / 16777216) 0) (e i)) (bit_xor (f i) (g i))
+    let t = c.args.table.now in
+    let e = c.from.ensures ∙ ap (λ l. get_or l 0 0) c.diagonal.ensures in
+    let f = c.from-2.ensures ∙ ap (λ l. get_or l 1 0) c.diagonal.ensures in
+    let g = c.from-3.ensures ∙ ap (λ l. get_or l 2 0) c.diagonal.ensures in
+    let h = c.from-4.ensures ∙ ap (λ l. get_or l 3 0) c.diagonal.ensures in
+    let y = c.rotate_right.ensures ∙ rotated1 _ (omega arith) ∙ ap (λ n. turned1 (get_or t n 0)) f in
+    let z = c.rotate_right-2.ensures ∙ rotated2 _ (omega arith) ∙ ap (λ n. turned2 (get_or t n 0)) g in
+    let w = c.rotate_right-3.ensures ∙ rotated3 _ (omega arith) ∙ ap (λ n. turned3 (get_or t n 0)) h in
+    λ i. bit_xor (bit_xor (get_or t (e i) 0) (y i)) (bit_xor (z i) (w i))

@@ -1,25 +1,30 @@
 -- `aes::keys::turned` meets its contract: by the place of the word among eight.
 -- Assumes nothing.
-use mathlib.Core.Path.{ap, ap₂, ◌∙◌}
-use Prim.Native.Nat.{◌*◌}
+use mathlib.Core.Path.{◌≡◌, ap, ap₂, ◌∙◌}
+use Prim.Native.Nat.{◌%◌}
+use native.Mathlib.Omega.{arith}
 use lib.Bits.{bit_xor}
 use borrow.Author.Tests.{eq-eqb, ne_eqb}
 use Rattle.rules.specs.AesBytes.{◌⊕◌}
+use Rattle.rules.specs.Aes.{round_constants}
 use Rattle.aes.specs.ByTables.{sub_word_by, turned_by}
+use Rattle.aes.proofs.WordsLaws.{high_byte, rotated_left}
 use Rattle.aes.proofs.keys.turned.Goals as goal
 
-pub returns-then-i-eq0 : goal.returns-then-i-eq0
-unfolding turned_by ◌⊕◌
-returns-then-i-eq0 c =
-    let word = c.sub_word.ensures ∙ ap (sub_word_by c.args.sub.now) c.turned_3.ensures in
-    ap₂ (λ x y. bit_xor x (y * 16777216)) word c.round_constant.ensures.0 ∙ (rw (eq-eqb _ _ c.if-i-eq0.true))
+pub returns-in-0 : goal.returns-in-0
+unfolding turned_by ◌⊕◌ round_constants
+returns-in-0 c =
+    let word = c.sub_word.ensures ∙ ap (sub_word_by c.args.sub.now) (c.rotate_left.ensures ∙ rotated_left c.args.temp (omega arith)) in
+    ap₂ bit_xor word (c.from_be_bytes-constant.ensures ∙ high_byte _) ∙ (rw (eq-eqb _ _ c.in-0.is))
 
-pub returns-then-i-eq4 : goal.returns-then-i-eq4
+pub returns-in-4 : goal.returns-in-4
 unfolding turned_by
-returns-then-i-eq4 c =
-    c.sub_word-then-i-eq4.ensures ∙ (rw (ne_eqb _ _ c.if-i-eq0.false, eq-eqb _ _ c.if-i-eq4.true))
+returns-in-4 c =
+    c.sub_word-in-4.ensures ∙ (rw c.in-4.is)
 
-pub returns : goal.returns
+pub returns-in_default : goal.returns-in_default
 unfolding turned_by
-returns c =
-    rw (ne_eqb _ _ c.if-i-eq0.false, ne_eqb _ _ c.if-i-eq4.false)
+returns-in_default c =
+    let first : (c.args.i % 8 ≡ 0) → ⊥ = omega arith in
+    let fourth : (c.args.i % 8 ≡ 4) → ⊥ = omega arith in
+    rw (ne_eqb _ _ first, ne_eqb _ _ fourth)

@@ -1,34 +1,28 @@
--- `aes::keys::unmix` meets its contract: the words up to i are mixed back, the rest is as it was.
+-- `aes::keys::unmix` meets its contract: the words up to the index are mixed back, the rest is as it was.
 -- Assumes nothing.
-use mathlib.Core.Path.{◌≡◌, ap, ◌∙◌}
-use mathlib.Core.List.{◌++◌}
+use mathlib.Core.Path.{refl, ap, ◌∙◌}
 use native.Mathlib.Omega.{arith}
-use lib.ListN.{take, drop, get_or, set, length-set}
-use Rattle.aes.specs.ByTables.{unmixed_word, unmixed_by}
-use Rattle.aes.proofs.LoopsLaws.{unmix_start, unmix_more, unmix_end}
+use lib.ListN.{set}
+use lib.Seq.{take_all}
+use borrow.Rule.Slice.PartMut.{mid_of, put_mid}
+use Rattle.std.proofs.lemmas.Grind.{common_steps}
+use Rattle.std.proofs.lemmas.List.{drop_all}
+use Rattle.std.proofs.lemmas.List.Edits.{map_over_more}
+use Rattle.aes.specs.ByTables.{unmixed_word}
+use Rattle.aes.proofs.LoopsLaws.{unmix_end}
 use Rattle.aes.proofs.keys.unmix.Goals as goal
 
-pub loop-i-init : goal.loop-i-init
-loop-i-init c =
-    (unmix_start c.args.table.now c.args.sub.now c.args.w.now (omega arith), omega arith, omega arith, omega arith)
+pub loop-word-init : goal.loop-word-init
+loop-word-init c = refl
 
-pub loop-i-preserved : goal.loop-i-preserved
-loop-i-preserved c =
-    let t = c.args.table.now in
-    let b = c.args.sub.now in
-    let w = c.args.w.now in
-    let i = c.loop-i.i in
-    let e = c.loop-i.invariant.0 in
-    let word = c.unmixed.ensures ∙ ap (λ l. unmixed_word t b (get_or l i 0)) e in (
-      ap (λ l. set l i c.unmixed.result) e ∙ unmix_more t b w (omega arith) i _ (omega arith) (omega arith) word,
-      omega arith,
-      omega arith,
-      (simp length-set (omega arith)),
-    )
+pub loop-word-preserved : goal.loop-word-preserved
+loop-word-preserved c =
+    let f = unmixed_word c.args.tables.now.mix.now c.args.tables.now.sub.now in
+    ap (set c.loop-word.word-items c.loop-word.word-index) c.unmixed.ensures
+    ∙ map_over_more f (mid_of 4 52 c.args.w.now) c.loop-word.word-items c.loop-word.word-index _ (omega arith) c.loop-word.invariant
+    (grind (arith, common_steps))
 
 pub returns : goal.returns
 returns c =
-    let new = unmixed_by c.args.table.now c.args.sub.now c.args.w.now in
-    let i : c.loop-i.i ≡ 56 = omega arith in
-    c.loop-i.invariant.0 ∙ ap (λ n. take n new ++ drop n c.args.w.now) i
-    ∙ unmix_end c.args.table.now c.args.sub.now c.args.w.now (omega arith)
+    ap (put_mid 4 52 c.args.w.now) (c.loop-word.invariant ∙ (grind (arith, common_steps, take_all, drop_all)))
+    ∙ unmix_end _ _ c.args.w.now

@@ -1,13 +1,11 @@
 -- Assumes nothing.
 use mathlib.Core.Path.{◌≡◌}
-use mathlib.Core.List.{◌++◌}
-use Prim.Native.Nat.{◌-◌, ◌≤◌}
-use lib.ListN.{length, take, drop}
-use Rattle.aes.specs.ByTables.{unmixed_by}
+use mathlib.Core.List.{◌++◌, map}
+use lib.ListN.{take, drop}
+use Rattle.aes.specs.ByTables.{unmixed_word}
 use Rattle.aes.proofs.keys.unmix.Given as goal
 
-abbrev pub invariant-loop-i : goal.invariant-loop-i
-invariant-loop-i l = (l.w ≡ take l.i (unmixed_by l.table l.sub l.initial.w) ++ drop l.i l.initial.w) × (4 ≤ l.i) × (l.i ≤ 56) × (length l.w ≡ 60)
-
-abbrev pub decreases-loop-i : goal.decreases-loop-i
-decreases-loop-i l = 56 - l.i
+abbrev pub invariant-loop-word : goal.invariant-loop-word
+invariant-loop-word l =
+    let old = l.initial.word-items in
+    l.word-items ≡ map (unmixed_word l.tables.mix.now l.tables.sub.now) (take l.word-index old) ++ drop l.word-index old

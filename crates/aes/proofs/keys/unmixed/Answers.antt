@@ -6,4 +6,4 @@ use Rattle.aes.proofs.keys.unmixed.Goals as goal
 
 pub returns : goal.returns
 returns c =
-    c.column.ensures ∙ ap (λ v. column_of c.args.table.now v v v v) c.sub_word-s.ensures
+    c.column.ensures ∙ ap (λ v. column_of c.args.tables.now.mix.now v v v v) c.sub_word-s.ensures

@@ -3,27 +3,24 @@
 use mathlib.Core.Path.{◌≡◌, refl, sym, ap, ◌∙◌}
 use Prim.Native.Nat.{◌-◌}
 use native.Mathlib.Omega.{arith}
-use Rattle.aes.specs.ByTables.{inv_cipher_by}
-use Rattle.wrap.specs.Steps.{unwrap_steps_by}
+use Rattle.std.proofs.Common.{rules}
+use Rattle.wrap.specs.Steps.{block_at, put_block, counted, start_of, unwrap_steps_by}
 use Rattle.wrap.proofs.StepsLaws.{unwrap_more}
 use Rattle.wrap.proofs.steps.unwrap_steps.Goals as goal
 
 pub loop-t-init : goal.loop-t-init
-loop-t-init c = (refl, omega arith, omega arith)
+loop-t-init g c = λ f h. refl
 
 pub loop-t-preserved : goal.loop-t-preserved
-loop-t-preserved c =
-    let s = c.args in
-    let f = inv_cipher_by s.table.now s.sub.now s.w.now in (
-      ap (unwrap_steps_by f (c.loop-t.t - 1)) c.unwrap_step.ensures.0
-          ∙ unwrap_more f c.loop-t.t c.loop-t.bytes (omega arith) ∙ c.loop-t.invariant.0,
-      omega arith,
-      c.unwrap_step.ensures.1,
-    )
+loop-t-preserved g c = λ f h.
+    let t = c.loop-t.t-counter in
+    let s = c.loop-t.bytes in
+    let x : c.step.ensures.0 ≡ f (counted t (block_at (start_of t) s)) = search rules in
+    ap (unwrap_steps_by f (t - 1)) (c.step.ensures.2 ∙ ap (λ b. put_block (start_of t) b s) x)
+    ∙ unwrap_more f t s (omega arith) ∙ c.loop-t.invariant f h
 
 pub returns : goal.returns
 unfolding unwrap_steps_by
-returns c =
-    let s = c.args in
-    let none : c.loop-t.t ≡ 0 = omega arith in
-    sym (ap (λ n. unwrap_steps_by (inv_cipher_by s.table.now s.sub.now s.w.now) n c.loop-t.bytes) none) ∙ c.loop-t.invariant.0
+returns g c = λ f h.
+    let none : c.loop-t.t-counter ≡ 0 = omega arith in
+    sym (ap (λ n. unwrap_steps_by f n c.loop-t.bytes) none) ∙ c.loop-t.invariant f h

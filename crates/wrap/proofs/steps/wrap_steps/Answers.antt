@@ -1,28 +1,26 @@
--- `wrap::steps::wrap_steps` meets its contract: so far the bytes are those of the first t steps.
+-- `wrap::steps::wrap_steps` meets its contract: so far the bytes are those of the steps before t.
 -- Assumes nothing.
 use mathlib.Core.Path.{◌≡◌, refl, ap, ◌∙◌}
-use Prim.Native.Nat.{◌+◌}
+use Prim.Native.Nat.{◌-◌}
 use native.Mathlib.Omega.{arith}
-use Rattle.aes.specs.ByTables.{cipher_by}
-use Rattle.wrap.specs.Steps.{wrap_step_by, wrap_steps_by}
+use Rattle.std.proofs.Common.{rules}
+use Rattle.wrap.specs.Steps.{block_at, put_block, counted, start_of, wrap_step_by, wrap_steps_by}
 use Rattle.wrap.proofs.StepsLaws.{wrap_more}
 use Rattle.wrap.proofs.steps.wrap_steps.Goals as goal
 
 pub loop-t-init : goal.loop-t-init
 unfolding wrap_steps_by
-loop-t-init c = (refl, omega arith, omega arith)
+loop-t-init g c = λ f h. refl
 
 pub loop-t-preserved : goal.loop-t-preserved
-loop-t-preserved c =
-    let s = c.args in
-    let f = cipher_by s.table.now s.sub.now s.w.now in (
-      c.wrap_step.ensures.0 ∙ ap (wrap_step_by f (c.loop-t.t + 1)) c.loop-t.invariant.0 ∙ wrap_more f c.loop-t.t s.bytes.now,
-      omega arith,
-      c.wrap_step.ensures.1,
-    )
+loop-t-preserved g c = λ f h.
+    let t = c.loop-t.t-counter in
+    let s = c.loop-t.bytes in
+    let x : c.step.ensures.0 ≡ counted t (f (block_at (start_of t) s)) = search rules in
+    c.step.ensures.2 ∙ ap (λ b. put_block (start_of t) b s) x ∙ ap (wrap_step_by f t) (c.loop-t.invariant f h)
+    ∙ wrap_more f t c.args.bytes.now (omega arith)
 
 pub returns : goal.returns
-returns c =
-    let s = c.args in
-    let all : c.loop-t.t ≡ 24 = omega arith in
-    c.loop-t.invariant.0 ∙ ap (λ n. wrap_steps_by (cipher_by s.table.now s.sub.now s.w.now) n s.bytes.now) all
+returns g c = λ f h.
+    let all : c.loop-t.t-counter - 1 ≡ 24 = omega arith in
+    c.loop-t.invariant f h ∙ ap (λ n. wrap_steps_by f n c.args.bytes.now) all

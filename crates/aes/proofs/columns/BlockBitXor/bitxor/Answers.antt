@@ -1,8 +1,8 @@
--- `aes::columns::added` meets its contract: word by word.
+-- `^` of two blocks meets its contract: word by word.
 -- Assumes nothing.
 use mathlib.Core.Path.{refl}
 use Rattle.rules.specs.AesBytes.{◌⊕◌}
-use Rattle.aes.proofs.columns.added.Goals as goal
+use Rattle.aes.proofs.columns.BlockBitXor.bitxor.Goals as goal
 
 pub returns : goal.returns
 unfolding ◌⊕◌
