@@ -61,7 +61,8 @@ unfolding some_from
 some_any w i zero f xs = refl
 some_any w i (suc n) f xs = ap (λ b. f (take w xs) || b) (some_any w (suc i) n f (drop w xs))
 
-pub some_cell_any : (w i n : ℕ) (f : List ℕ → Bool) (xs : List ℕ) → some_cell w i n (λ j c. f c) xs ≡ list_any f (first_chunks w n (drop (i * w) xs))
+pub some_cell_any : (w i n : ℕ) (f : List ℕ → Bool) (xs : List ℕ)
+    → some_cell w i n (λ j c. f c) xs ≡ list_any f (first_chunks w n (drop (i * w) xs))
 unfolding some_cell
 some_cell_any w i n f xs = some_any w i n f (drop (i * w) xs)
 
