@@ -1,15 +1,16 @@
 // The mark store, lent by the caller at any length: a block's mark is the MARK_WIDTH bytes from block * MARK_WIDTH. Every public function is total.
 #![tactic(auto)]
 
-ghost use Rattle.std.specs.Prelude.{◌≡◌, ◌+◌, ◌*◌, ◌≤◌, ◌<◌, length};
-ghost use Rattle.cells.specs.Cells.{cell, copies, fill};
-ghost use Rattle.cells.specs.Predicates.{some_cell};
-ghost use Rattle.rules.specs.Numbers.{mark_width, mark_places, store_size};
+ghost use Rattle.std.specs.Prelude.{◌≡◌, ◌/◌, ◌%◌, ◌<◌, length};
+ghost use Rattle.cells.specs.Cells.{copies};
+ghost use Rattle.rules.specs.Numbers.{mark_width};
 ghost use Rattle.rules.specs.Marks.{differs};
-ghost use Rattle.marks.specs.Runs.{run};
-ghost use Rattle.marks.specs.Store.{some_differs, marked, zeroed};
+ghost use Rattle.marks.specs.Runs.{run, one_differs};
+ghost use Rattle.marks.specs.Store.{in_store, some_differs, marked, zeroed};
 
 use rules::{BLOCKS_EACH, MARK_PLACES, MARK_WIDTH, NAMESPACES, Namespace, STORE_SIZE};
+
+type Mark = [u8; MARK_WIDTH];
 
 // So many marks are set, or compared, in one step, by a pattern that is the identity for each.
 const RUN_MARKS: usize = 16;
@@ -19,173 +20,121 @@ const PATTERN_SIZE: usize = RUN_MARKS * MARK_WIDTH;
 // From so many marks on, to make the pattern pays for setting them.
 const LONG_MARKS: usize = 4 * RUN_MARKS;
 
+// A store of the right size, and a run of its marks.
+fn in_store(marks: &[u8], first: usize, n: usize) -> bool
+    ensures { result ≡ in_store marks.now first n }
+{
+    marks.len() == STORE_SIZE && first <= MARK_PLACES && n <= MARK_PLACES - first
+}
+
 // Whether the block has been written and its mark differs from this identity.
-fn mark_differs(marks: &[u8], block: usize, identity: &[u8]) -> bool
-    requires { (length marks.now ≡ store_size) × (block < mark_places) }
-    ensures { result ≡ differs identity.now (cell mark_width block marks.now) }
+fn mark_differs(mark: &Mark, identity: &[u8]) -> bool
+    ensures { result ≡ differs identity.now mark.now }
 {
-    let a = block * MARK_WIDTH;
-    if marks[a] == 0 {
-        return false;
-    }
-    !cells::same_part(marks, a, MARK_WIDTH, identity)
+    mark[0] != 0 && mark.as_slice() != identity
 }
 
-// Whether one of the n blocks from first differs, block by block.
-fn differs_each(marks: &[u8], first: usize, n: usize, identity: &[u8]) -> bool
-    requires { (length marks.now ≡ store_size) × (first + n ≤ mark_places) }
-    ensures { result ≡ some_cell mark_width first n (λ block m. differs identity.now m) marks.now }
+// Whether one of these marks differs, one by one.
+fn differs_each(marks: &[u8], identity: &[u8]) -> bool
+    ensures { result ≡ one_differs identity.now marks.now }
 {
-    let mut k = 0;
-    while k < n {
-        let block = first + k;
-        if mark_differs(marks, block, identity) {
-            return true;
-        }
-        k += 1;
-    }
-    false
+    let (marks, _) = marks.as_chunks();
+    marks.iter().any(|mark| mark_differs(mark, identity))
 }
 
-// Whether one of a run's blocks differs. The pattern is the identity for each of them: a run that equals it has none that does.
-fn differs_in_run(marks: &[u8], first: usize, identity: &[u8], pattern: &[u8]) -> bool
-    requires { (length marks.now ≡ store_size) × (first + run ≤ mark_places) × (length identity.now ≡ mark_width) × (pattern.now
-        ≡ copies run identity.now) }
-    ensures { result ≡ some_cell mark_width first run (λ block m. differs identity.now m) marks.now }
+// The identity for each mark of a run.
+fn pattern_of(identity: &Mark) -> [u8; PATTERN_SIZE]
+    ensures { result ≡ copies run identity.now }
 {
-    if cells::same_part(marks, first * MARK_WIDTH, PATTERN_SIZE, pattern) {
-        return false;
-    }
-    differs_each(marks, first, RUN_MARKS, identity)
+    let mut pattern = [0; PATTERN_SIZE];
+    set_each(&mut pattern, identity);
+    pattern
 }
 
-// Whether one of the n blocks from first differs, run by run, and the rest block by block.
-fn differs_by_runs(marks: &[u8], first: usize, n: usize, identity: &[u8]) -> bool
-    requires { (length marks.now ≡ store_size) × (first + n ≤ mark_places) × (length identity.now ≡ mark_width) }
-    ensures { result ≡ some_cell mark_width first n (λ block m. differs identity.now m) marks.now }
+// Whether one of a run's marks differs. A run that equals the pattern has none that does.
+fn differs_in_run(marks: &[u8; PATTERN_SIZE], identity: &Mark, pattern: &[u8; PATTERN_SIZE]) -> bool
+    requires { pattern.now ≡ copies run identity.now }
+    ensures { result ≡ one_differs identity.now marks.now }
 {
-    let mut pattern = [0u8; PATTERN_SIZE];
-    mark_each(&mut pattern, 0, RUN_MARKS, identity);
-    let mut k = 0;
-    while RUN_MARKS <= n - k {
-        let block = first + k;
-        if differs_in_run(marks, block, identity, &pattern) {
-            return true;
-        }
-        k += RUN_MARKS;
-    }
-    let block = first + k;
-    differs_each(marks, block, n - k, identity)
+    marks != pattern && differs_each(marks, identity)
 }
 
-fn differs_from(marks: &[u8], first: usize, n: usize, identity: &[u8]) -> bool
-    requires { (length marks.now ≡ store_size) × (first + n ≤ mark_places) }
-    ensures { result ≡ some_cell mark_width first n (λ block m. differs identity.now m) marks.now }
+// Whether one of these marks differs, run by run, and the rest one by one.
+fn differs_by_runs(marks: &[u8], identity: &Mark) -> bool
+    ensures { result ≡ one_differs identity.now marks.now }
 {
-    if n < RUN_MARKS {
-        return differs_each(marks, first, n, identity);
-    }
-    if identity.len() != MARK_WIDTH {
-        return differs_each(marks, first, n, identity);
-    }
-    differs_by_runs(marks, first, n, identity)
+    let pattern = pattern_of(identity);
+    let (runs, rest) = marks.as_chunks();
+    runs.iter()
+        .any(|run| differs_in_run(run, identity, &pattern))
+        || differs_each(rest, identity)
 }
 
 // 00 28: whether one of the n blocks from first has been written under another identity.
 pub fn some_differs(marks: &[u8], first: usize, n: usize, identity: &[u8]) -> bool
     ensures { result ≡ some_differs first n identity.now marks.now }
 {
-    if marks.len() != STORE_SIZE {
+    if !in_store(marks, first, n) {
         return false;
     }
-    if first > MARK_PLACES {
-        return false;
-    }
-    if n > MARK_PLACES - first {
-        return false;
-    }
-    differs_from(marks, first, n, identity)
-}
-
-// The n marks from first, one by one. The function's own copy of the identity cannot overlap the marks, so a mark is two stores and not seventeen.
-fn mark_each(marks: &mut [u8], first: usize, n: usize, identity: &[u8])
-    requires { ((first + n) * mark_width ≤ length marks.old) × (length identity.now ≡ mark_width) }
-    ensures { marks.new ≡ fill mark_width first n identity.now marks.old }
-{
-    let mut own = [0u8; MARK_WIDTH];
-    cells::copy(&mut own, identity);
-    let mut k = 0;
-    while k < n {
-        let a = (first + k) * MARK_WIDTH;
-        let e = a + MARK_WIDTH;
-        cells::copy(&mut marks[a..e], &own);
-        k += 1;
+    let marks = &marks[first * MARK_WIDTH..(first + n) * MARK_WIDTH];
+    match identity.as_array() {
+        Some(identity) if n >= RUN_MARKS => differs_by_runs(marks, identity),
+        _ => differs_each(marks, identity),
     }
 }
 
-// The n marks from first, run by run, and the rest one by one.
-fn mark_by_runs(marks: &mut [u8], first: usize, n: usize, identity: &[u8])
-    requires { ((first + n) * mark_width ≤ length marks.old) × (length identity.now ≡ mark_width) }
-    ensures { marks.new ≡ fill mark_width first n identity.now marks.old }
+// Each of the cells becomes this one. The function's own copy of it cannot overlap them, so a mark is two stores and not seventeen.
+// (c) A range of places: of the chunks that `chunks_exact_mut` or `as_chunks_mut` lends, a proof knows no byte once they are written.
+fn set_each<const W: usize>(cells: &mut [u8], cell: &[u8; W])
+    requires some { 0 < W }
+    requires whole { length cells.old % W ≡ 0 }
+    ensures { cells.new ≡ copies (length cells.old / W) cell.now }
 {
-    let mut pattern = [0u8; PATTERN_SIZE];
-    mark_each(&mut pattern, 0, RUN_MARKS, identity);
-    let mut k = 0;
-    while RUN_MARKS <= n - k {
-        let block = first + k;
-        let a = block * MARK_WIDTH;
-        let e = a + PATTERN_SIZE;
-        cells::copy(&mut marks[a..e], &pattern);
-        k += RUN_MARKS;
+    let own = *cell;
+    for i in 0..cells.len() / W {
+        let a = i * W;
+        cells[a..a + W].copy_from_slice(&own);
     }
-    let block = first + k;
-    mark_each(marks, block, n - k, identity);
 }
 
-fn mark_from(marks: &mut [u8], first: usize, n: usize, identity: &[u8])
-    requires { ((first + n) * mark_width ≤ length marks.old) × (length identity.now ≡ mark_width) }
-    ensures { marks.new ≡ fill mark_width first n identity.now marks.old }
+// Each of these marks becomes this identity, run by run, and the rest one by one.
+fn set_by_runs(marks: &mut [u8], identity: &Mark)
+    requires { length marks.old % mark_width ≡ 0 }
+    ensures { marks.new ≡ copies (length marks.old / mark_width) identity.now }
 {
-    if n < LONG_MARKS {
-        mark_each(marks, first, n, identity);
-        return;
-    }
-    mark_by_runs(marks, first, n, identity);
+    let pattern = pattern_of(identity);
+    let whole = marks.len() / PATTERN_SIZE * PATTERN_SIZE;
+    let (runs, rest) = marks.split_at_mut(whole);
+    set_each(runs, &pattern);
+    set_each(rest, identity);
 }
 
 // The marks of the n blocks from first become this identity.
 pub fn mark(marks: &mut [u8], first: usize, n: usize, identity: &[u8])
     ensures { marks.new ≡ marked first n identity.now marks.old }
 {
-    if marks.len() != STORE_SIZE {
+    let Some(identity) = identity.as_array() else {
+        return;
+    };
+    if !in_store(marks, first, n) {
         return;
     }
-    if first > MARK_PLACES {
-        return;
+    let marks = &mut marks[first * MARK_WIDTH..(first + n) * MARK_WIDTH];
+    if n < LONG_MARKS {
+        set_each(marks, identity);
+    } else {
+        set_by_runs(marks, identity);
     }
-    if n > MARK_PLACES - first {
-        return;
-    }
-    if identity.len() != MARK_WIDTH {
-        return;
-    }
-    mark_from(marks, first, n, identity);
 }
 
 // The namespace's blocks become never written.
 pub fn zero_namespace(marks: &mut [u8], ns: Namespace)
     ensures { marks.new ≡ zeroed ns marks.old }
 {
-    if marks.len() != STORE_SIZE {
-        return;
-    }
     let n = ns.0 as usize;
-    if n < 1 {
-        return;
+    if marks.len() == STORE_SIZE && (1..=NAMESPACES).contains(&n) {
+        let first = (n - 1) * BLOCKS_EACH;
+        cells::zero_part(marks, first * MARK_WIDTH, BLOCKS_EACH * MARK_WIDTH);
     }
-    if n > NAMESPACES {
-        return;
-    }
-    let first = (n - 1) * BLOCKS_EACH;
-    cells::zero_part(marks, first * MARK_WIDTH, BLOCKS_EACH * MARK_WIDTH);
 }

@@ -1,28 +1,33 @@
--- The key cache at its own length and at another, and a slot's parts where they
--- stand in it.
+-- The key cache at its own length and at another, its slots, and a slot's parts.
 -- Assumes nothing.
 use mathlib.Core.Path.{◌≡◌, refl, sym, ap, ◌∙◌}
-use mathlib.Core.Bool.{true, false, ◌&&◌, cond}
+use mathlib.Core.Bool.{Bool, true, false, not, ◌&&◌, cond, and-false, and_comm}
 use mathlib.Core.List.{List, [], ◌∷◌, ◌++◌, append-nil}
 use mathlib.Core.Logic.{by_cases}
-use Prim.Native.Nat.{ℕ, ◌+◌, ◌-◌, ◌*◌, ◌≤◌, ◌<◌}
-use native.Mathlib.Nat.{add-zero}
-use native.Mathlib.Decide.{ℕ_discrete}
+use Prim.Native.Nat.{ℕ, min, ◌+◌, ◌-◌, ◌*◌, ◌≤◌, ◌<◌}
+use native.Mathlib.Decide.{ℕ_discrete, dec_lt}
 use native.Mathlib.Omega.{arith}
-use lib.ListN.{length, get_or, take, drop, set, length-set, length-append, length-drop, drop_of_length-le}
+use lib.ListN.{length, get_or, take, drop, replicate, length-append, length-drop, drop_of_length-le}
 use lib.Dec.{eqb}
-use lib.Seq.{set_split}
-use borrow.Author.Tests.{eq-eqb, ne_eqb, lt-ltb, le-ltb, le-leb}
+use lib.Seq.{take_at, drop_at, take_all}
+use denote.Bor.{Bor}
+use borrow.Author.Tests.{eq-eqb, lt-ltb, le-ltb, le-leb}
+use Rattle.std.specs.Prelude.{Option, Some, None}
+use Rattle.std.specs.Option.{MatchOption, IfSome}
+use Rattle.std.specs.List.{HoldsAt}
+use Rattle.std.specs.Simd.{first_chunks}
+use Rattle.std.proofs.lemmas.List.{drop-replicate}
 use Rattle.cells.specs.Cells.{part, cell, zeros, put, fill}
 use Rattle.cells.specs.Predicates.{same}
-use Rattle.cells.proofs.CellsLaws.{length_cell, part_end, part_cell, part_whole, lent_length_to, copied, push, fill_front}
+use Rattle.cells.proofs.CellsLaws.{part_whole, fill_front, fill_one}
+use Rattle.cells.proofs.ChunksLaws.{length_chunks, chunk_at}
 use Rattle.cells.proofs.PredicatesLaws.{same_split, same_byte}
 use Rattle.rules.specs.declared.Namespace.{Namespace}
-use Rattle.rules.specs.Numbers.{uid_most, key_size, slot_width, slot_places, slots_size, cache_size}
+use Rattle.rules.specs.Numbers.{namespaces, tags_most, uid_most, key_size, slot_width, slot_places, slots_size, cache_size}
 use Rattle.rules.specs.State.{wrong_cache, key_tag, no_namespace}
-use Rattle.rules.specs.Slots.{Contents, FitKey, place_of, padded, slot_bytes, emptied, loaded, uid_of, key_of}
+use Rattle.rules.specs.Slots.{Contents, FitKey, place_of, padded, slot_bytes, emptied, uid_length, uid_of}
 use Rattle.rules.proofs.StateLaws.{wrong_cache_lem, right_cache}
-use Rattle.rules.proofs.SlotsLaws.{length_padded, length_at}
+use Rattle.rules.proofs.SlotsLaws.{length_padded}
 use Rattle.slots.specs.Cache.{slot_at, stored, cleared, cleared_all, tags_up_to, cleared_up_to, head_size, head_of, head_bytes}
 
 -- ------------------------------------------------------------------------
@@ -68,116 +73,122 @@ cleared_all_zeros keys =
     (λ wrong. rw (wrong_cache_lem keys wrong))
 
 -- ------------------------------------------------------------------------
--- A slot's parts
+-- What is cleared by one fill, in a cache of any length
 
-module _ (keys : List ℕ) (place : ℕ) (size : length keys ≡ cache_size) where
-  module _ (inside : place < slot_places) where
-    pub loaded_not : get_or keys (place * slot_width) 0 ≡ 0 → loaded (slot_at place keys) ≡ false
-    loaded_not e = rw (slot_is keys size place inside, length_at keys place, e)
+by_length : (wrong : Bool) (keys new : List ℕ) → cond wrong keys new ≡ cond (not wrong && true) new keys
+by_length true keys new = refl
+by_length false keys new = refl
 
-    pub loaded_is : (get_or keys (place * slot_width) 0 ≡ 0 → ⊥) → loaded (slot_at place keys) ≡ true
-    loaded_is n = rw (slot_is keys size place inside, length_at keys place, ne_eqb _ 0 n)
+pub clear_one : (keys : List ℕ) (place : ℕ) → place < slot_places
+    → cond (wrong_cache keys) keys (fill slot_width place 1 emptied keys) ≡ cleared place keys
+unfolding cleared
+clear_one keys place inside =
+    rw (lt-ltb place slot_places inside, fill_one slot_width place emptied keys) (by_length (wrong_cache keys) keys (put slot_width place emptied keys))
 
-    fits : place * slot_width + slot_width ≤ length keys
-    fits = omega arith
+pub clear_none : (keys : List ℕ) (place : ℕ) → slot_places ≤ place → keys ≡ cleared place keys
+unfolding cleared
+clear_none keys place past = rw (le-ltb place slot_places past, and-false (not (wrong_cache keys)))
 
-    pub uid_at : (n : ℕ) → get_or keys (place * slot_width) 0 ≡ n → n < slot_width
-        → uid_of (cell slot_width place keys) ≡ part (place * slot_width + 1) n keys
-    unfolding uid_of
-    uid_at n e h = ap (λ k. part 1 k (cell slot_width place keys)) (length_at keys place ∙ e) ∙ part_cell slot_width place 1 n keys fits (omega arith)
+module _ (ns : Namespace) (count : ℕ) (keys : List ℕ) where
+  pub clear_namespace : {tags : ℕ} → 1 ≤ ns.0 → ns.0 ≤ namespaces → tags ≡ min count tags_most
+      → cond (wrong_cache keys) keys (fill slot_width ((ns.0 - 1) * tags_most) tags emptied keys) ≡ cleared_up_to ns count keys
+  unfolding cleared_up_to
+  clear_namespace lo hi is =
+      let first : place_of ns (key_tag 0) ≡ (ns.0 - 1) * tags_most = omega arith in
+      let most : tags_up_to count ≡ min count tags_most =
+      by_cases (dec_lt tags_most count)
+      (λ more. rw (lt-ltb tags_most count more) (omega arith))
+      (λ less. rw (le-ltb tags_most count (omega arith)) (omega arith)) in
+      rw (is, first, most, le-ltb ns.0 1 lo, le-ltb namespaces ns.0 hi)
+      (by_length (wrong_cache keys) keys (fill slot_width ((ns.0 - 1) * tags_most) (min count tags_most) emptied keys))
 
-    -- a length byte past the slot: the rest of the slot
-    pub uid_all : (n : ℕ) → get_or keys (place * slot_width) 0 ≡ n → slot_width ≤ n
-        → uid_of (cell slot_width place keys) ≡ part (place * slot_width + 1) (slot_width - 1) keys
-    unfolding uid_of
-    uid_all n e h =
-        let l = length_cell slot_width place keys fits in
-        ap (λ k. part 1 k (cell slot_width place keys)) (length_at keys place ∙ e)
-        ∙ part_end 1 n (slot_width - 1) (cell slot_width place keys) (omega arith) (omega arith)
-        ∙ part_cell slot_width place 1 (slot_width - 1) keys fits (omega arith)
-
-    pub key_at_lem : key_of (cell slot_width place keys) ≡ part (place * slot_width + (1 + uid_most)) key_size keys
-    unfolding key_of
-    key_at_lem = part_cell slot_width place (1 + uid_most) key_size keys fits (omega arith)
-
-    pub head_at : head_of (cell slot_width place keys) ≡ part (place * slot_width) head_size keys
-    head_at = part_cell slot_width place 0 head_size keys fits (omega arith) ∙ ap (λ k. part k head_size keys) (add-zero (place * slot_width))
-
-    -- the head against another: the length, then the KeyUID's first n bytes, then the others
-    pub head_parts : (head : List ℕ) (n : ℕ) → length head ≡ head_size → n ≤ uid_most
-        → same (head_of (cell slot_width place keys)) head
-        ≡ eqb (get_or keys (place * slot_width) 0) (get_or head 0 0)
-        && (same (part (place * slot_width + 1) n keys) (part 1 n head)
-        && same (part (place * slot_width + (1 + n)) (uid_most - n) keys) (part (1 + n) (uid_most - n) head))
-    head_parts head n whole h =
-        let a : ℕ = place * slot_width in
-        let e : uid_most ≡ n + (uid_most - n) = omega (arith, h) in
-        let f : a + 1 + n ≡ a + (1 + n) = omega arith in
-        let rest = ap (λ k. same (part (a + 1) k keys) (part 1 k head)) e
-        ∙ same_split (a + 1) 1 n (uid_most - n) keys head (omega (arith, fits)) (omega arith)
-        ∙ ap (λ k. same (part (a + 1) n keys) (part 1 n head) && same (part k (uid_most - n) keys) (part (1 + n) (uid_most - n) head)) f in
-        ap (λ x. same x head) head_at
-        ∙ ap (same (part a head_size keys)) (sym (part_whole head_size head whole))
-        ∙ same_split a 0 1 uid_most keys head (omega (arith, fits)) (omega arith)
-        ∙ ap (λ b. b && same (part (a + 1) uid_most keys) (part 1 uid_most head)) (same_byte a 0 keys head (omega (arith, fits)) (omega arith))
-        ∙ ap (λ b. eqb (get_or keys a 0) (get_or head 0 0) && b) rest
+  pub clear_no_namespace : no_namespace ns ≡ true → keys ≡ cleared_up_to ns count keys
+  unfolding cleared_up_to
+  clear_no_namespace is = rw (is, and-false (not (wrong_cache keys)))
 
 -- ------------------------------------------------------------------------
--- What the stores of `set_head` and of `set_slot` leave
+-- The slots of a cache
 
--- ys in place of the k elements from a, as a part that was lent comes back
-abbrev over : ℕ → ℕ → List ℕ → List ℕ → List ℕ
-over a k xs ys = take a xs ++ (ys ++ drop k (drop a xs))
+module _ (keys : List ℕ) (place : ℕ) where
+  pub wrong_slot : (length keys ≡ cache_size → ⊥) → slot_at place keys ≡ []
+  unfolding slot_at
+  wrong_slot wrong = rw (wrong_cache_lem keys wrong)
 
--- what was lent, from a to e
-abbrev lent : ℕ → ℕ → List ℕ → List ℕ
-lent a e xs = take (e - a) (drop a xs)
+  -- what `get` finds at a place
+  pub slot_found : {slots : List (List ℕ)} → length keys ≡ cache_size → slots ≡ first_chunks slot_width slot_places keys
+      → (found : Option (Bor (List ℕ))) → IfSome found (λ x. x.now ≡ get_or slots place x.now)
+      → MatchOption found (length slots ≤ place) (λ x. (place < length slots) × HoldsAt (λ y. x.now ≡ y) slots place)
+      → MatchOption found (slot_at place keys ≡ []) (λ slot. slot.now ≡ slot_at place keys)
+  unfolding slot_at
+  slot_found size is None some here =
+      let n = ap length is ∙ length_chunks slot_width slot_places keys in
+      rw (right_cache keys size, le-ltb place slot_places (omega (arith, n, here)))
+  slot_found size is (Some x) some here =
+      let n = ap length is ∙ length_chunks slot_width slot_places keys in
+      let inside : place < slot_places = omega (arith, n, here.0) in
+      rw (right_cache keys size, lt-ltb place slot_places inside)
+      (some ∙ ap (λ cs. get_or cs place x.now) is ∙ chunk_at slot_width place slot_places keys x.now inside)
 
--- what `cells::copy` leaves in it
-abbrev copied_to : ℕ → ℕ → List ℕ → List ℕ → List ℕ
-copied_to a e xs src = cond (eqb (length (lent a e xs)) (length src)) src (lent a e xs)
+-- ------------------------------------------------------------------------
+-- A slot's parts
 
--- u is left by the copy of the KeyUID, z by the fill with zeros
-module _ (d uid u z : List ℕ) (whole : length d ≡ head_size) (short : length uid ≤ uid_most) where
-  abbrev first : List ℕ
-  first = set d 0 (length uid)
+module _ (c : List ℕ) (whole : length c ≡ slot_width) where
+  -- a length byte past the slot: the rest of the slot
+  pub uid_taken : {n : ℕ} → n ≡ min (uid_length c) (slot_width - 1) → take n (take (slot_width - 1) (drop 1 c)) ≡ uid_of c
+  unfolding uid_of part
+  uid_taken is =
+      let l : length (drop 1 c) ≡ slot_width - 1 = simp length-drop (omega arith) in
+      let behind : take (slot_width - 1) (drop 1 c) ≡ drop 1 c = take_all (slot_width - 1) (drop 1 c) (omega arith) in
+      by_cases (dec_lt (uid_length c) slot_width)
+      (λ less. let e : min (uid_length c) (slot_width - 1) ≡ uid_length c = omega arith in rw (is, e, behind))
+      (λ more.
+      let e : min (uid_length c) (slot_width - 1) ≡ slot_width - 1 = omega arith in
+      let all : take (uid_length c) (drop 1 c) ≡ drop 1 c = take_all (uid_length c) (drop 1 c) (omega arith) in
+      rw (is, e, behind, behind, all))
 
-  abbrev second : List ℕ
-  second = over 1 (1 + length uid - 1) (set d 0 (length uid)) u
+  -- the head against another: the length, then the other bytes behind the KeyUID's first n, then those
+  pub head_parts : (head : List ℕ) (n : ℕ) → length head ≡ head_size → n ≤ uid_most
+      → same (head_of c) head
+      ≡ eqb (get_or c 0 0) (get_or head 0 0)
+      && (same (part (1 + n) (uid_most - n) c) (part (1 + n) (uid_most - n) head) && same (part 1 n c) (part 1 n head))
+  head_parts head n size h =
+      let e : uid_most ≡ n + (uid_most - n) = omega (arith, h) in
+      let rest = ap (λ k. same (part 1 k c) (part 1 k head)) e
+      ∙ same_split 1 1 n (uid_most - n) c head (omega arith) (omega arith)
+      ∙ and_comm (same (part 1 n c) (part 1 n head)) (same (part (1 + n) (uid_most - n) c) (part (1 + n) (uid_most - n) head)) in
+      ap (same (head_of c)) (sym (part_whole head_size head size))
+      ∙ same_split 0 0 1 uid_most c head (omega arith) (omega arith)
+      ∙ ap (λ b. b && same (part 1 uid_most c) (part 1 uid_most head)) (same_byte 0 0 c head (omega arith) (omega arith))
+      ∙ ap (λ b. eqb (get_or c 0 0) (get_or head 0 0) && b) rest
 
-  pub set_head_is : u ≡ copied_to 1 (1 + length uid) first uid → z ≡ zeros (length (lent (1 + length uid) head_size second))
-      → over (1 + length uid) (head_size - (1 + length uid)) second z ≡ head_bytes uid
-  unfolding head_bytes padded
-  set_head_is eu ez =
-      let n : ℕ = length uid in
-      let u-is : u ≡ uid = eu ∙ copied 1 (1 + length uid) first uid (omega (arith, length-set d 0 (length uid))) (omega arith) in
-      let s1 : first ≡ (n ∷ []) ++ drop 1 d = set_split d 0 n (omega arith) in
-      let s2 : second ≡ (n ∷ uid) ++ drop (1 + n) d = rw (u-is, s1) (push (n ∷ []) d uid 1 (1 + n) refl (omega arith)) in
-      let room : head_size ≤ length second = rw s2 (simp (length-append, length-drop) (omega arith)) in
-      let rest : head_size - (1 + length uid) ≡ uid_most - length uid = omega arith in
-      let z-is : z ≡ zeros (uid_most - length uid) = ez ∙ ap zeros (lent_length_to (1 + n) head_size second room ∙ rest) in
-      let s3 = push (n ∷ uid) d (zeros (uid_most - length uid)) (1 + n) head_size (omega arith) (omega arith) in
-      let e : drop head_size d ≡ [] = drop_of_length-le d {i = head_size} (omega arith) in
-      rw (z-is, s2, s3, e) (ap (λ l. n ∷ l) (append-nil (uid ++ zeros (uid_most - length uid))))
+-- ------------------------------------------------------------------------
+-- A head from a KeyUID, and a slot from a head and a key
+
+pub head_is : (uid : List ℕ) {copied : List ℕ} → length uid ≤ uid_most → copied ≡ uid
+    → length uid ∷ (copied ++ drop (1 + length uid - 1) (zeros uid_most)) ≡ head_bytes uid
+unfolding head_bytes padded zeros
+head_is uid short is =
+    let e : 1 + length uid - 1 ≡ length uid = omega arith in
+    rw (is, e, drop-replicate)
 
 pub length_head : (uid : List ℕ) → length uid ≤ uid_most → length (head_bytes uid) ≡ head_size
 unfolding head_bytes
 length_head uid short = omega (arith, length_padded uid_most uid short)
 
--- h is left by `set_head`, k by the copy of the key
-module _ (d uid key h k : List ℕ) (whole : length d ≡ slot_width) (short : length uid ≤ uid_most) (full : length key ≡ key_size) where
-  abbrev headed : List ℕ
-  headed = over 0 (head_size - 0) d h
+-- a head over a slot's first bytes, and a key over the others
+abbrev set : List ℕ → List ℕ → List ℕ → List ℕ
+set old head key =
+    take head_size (head ++ drop head_size old)
+    ++ (key ++ drop (length (head ++ drop head_size old) - head_size) (drop head_size (head ++ drop head_size old)))
 
-  pub set_slot_is : h ≡ head_bytes uid → k ≡ copied_to head_size slot_width headed key
-      → over head_size (slot_width - head_size) headed k ≡ slot_bytes (record { uid = uid; key = key })
-  unfolding slot_bytes head_bytes
-  set_slot_is eh ek =
-      let b : List ℕ = length uid ∷ padded uid_most uid in
-      let l : length b ≡ head_size = length_head uid short in
-      let s1 : headed ≡ b ++ drop head_size d = rw eh (push [] d b 0 head_size refl (omega arith)) in
-      let room : slot_width ≤ length headed = rw s1 (simp (length-append, length-drop) (omega arith)) in
-      let k-is : k ≡ key = ek ∙ copied head_size slot_width headed key room (omega arith) in
-      let s2 = push b d key head_size slot_width l (omega arith) in
-      let e : drop slot_width d ≡ [] = drop_of_length-le d {i = slot_width} (omega arith) in
-      rw (k-is, s1, s2, e) (append-nil (b ++ key))
+set_parts : (old head key : List ℕ) → length old ≡ slot_width → length head ≡ head_size → length key ≡ key_size → set old head key ≡ head ++ key
+set_parts old head key whole l full =
+    let rest : length (drop head_size old) ≡ key_size = simp length-drop (omega arith) in
+    let n : length (head ++ drop head_size old) - head_size ≡ key_size = simp length-append (omega arith) in
+    let none : drop key_size (drop head_size old) ≡ [] = drop_of_length-le (drop head_size old) {i = key_size} (omega arith) in
+    rw (n, take_at head (drop head_size old) head_size l, drop_at head (drop head_size old) head_size l, none, append-nil)
+
+pub set_slot_is : (uid key old : List ℕ) {head copied : List ℕ} → length old ≡ slot_width → length uid ≤ uid_most → length key ≡ key_size
+    → head ≡ head_bytes uid → copied ≡ key → set old head copied ≡ slot_bytes (record { uid = uid; key = key })
+unfolding slot_bytes head_bytes
+set_slot_is uid key old whole short full h k = rw (h, k) (set_parts old (head_bytes uid) key whole (length_head uid short) full)

@@ -30,14 +30,8 @@ use Rattle.sound.proofs.ScanLaws.{unallocated_marked}
 -- ------------------------------------------------------------------------
 -- Namespace by namespace, in a cache of its length
 
-up_to_most : (count : ℕ) → tags_up_to count ≤ tags_most
-up_to_most count =
-    by_cases (dec_lt tags_most count)
-    (λ more. rw (lt-ltb tags_most count more) (omega arith))
-    (λ less. rw (le-ltb tags_most count (omega arith)) (omega arith))
-
 -- the first n namespaces, and the next
-pub first_next : (counts keys : List ℕ) (n : ℕ) → n < namespaces → length (cleared_first n counts keys) ≡ cache_size
+first_next : (counts keys : List ℕ) (n : ℕ) → n < namespaces → length (cleared_first n counts keys) ≡ cache_size
     → fill slot_width (n * tags_most) (tags_up_to (get_or counts n 0)) emptied (cleared_first n counts keys) ≡ cleared_first (n + 1) counts keys
 unfolding cleared_first
 first_next counts keys n h size =
@@ -47,23 +41,14 @@ first_next counts keys n h size =
     ∙ sym (cleared_up_to_is (cleared_first n counts keys) size (namespace (suc n)) (get_or counts n 0) is)
     ∙ ap (λ k. cleared_first k counts keys) (sym (add-one n))
 
-pub cleared_next : (counts keys : List ℕ) (n : ℕ) (before after : List ℕ) → n < namespaces
-    → before ≡ cleared_first n counts keys → length before ≡ cache_size
-    → after ≡ fill slot_width (n * tags_most) (tags_up_to (get_or counts n 0)) emptied before
-    → (after ≡ cleared_first (n + 1) counts keys) × (length after ≡ cache_size)
-cleared_next counts keys n before after h so size is =
-    let most = up_to_most (get_or counts n 0) in (
-      is
-          ∙ ap (fill slot_width (n * tags_most) (tags_up_to (get_or counts n 0)) emptied) so
-          ∙ first_next counts keys n h (ap length (sym so) ∙ size),
-      ap length is ∙ length_fill slot_width (n * tags_most) (tags_up_to (get_or counts n 0)) emptied before (omega arith) (length_zeros slot_width) ∙ size,
-    )
-
--- a cache of another length stays
-pub wrong_stays : (counts keys : List ℕ) → wrong_cache keys ≡ true → (n : ℕ) → cleared_first n counts keys ≡ keys
-unfolding cleared_first cleared_up_to
-wrong_stays counts keys wrong zero = refl
-wrong_stays counts keys wrong (suc n) = rw (wrong_stays counts keys wrong n, wrong)
+pub cleared_next : (counts keys : List ℕ) (n : ℕ) {before after : List ℕ} → before ≡ cleared_first n counts keys
+    → after ≡ cleared_up_to (namespace (n + 1)) (get_or counts n 0) before → after ≡ cleared_first (n + 1) counts keys
+unfolding cleared_first
+cleared_next counts keys n so is =
+    is
+    ∙ ap (cleared_up_to (namespace (n + 1)) (get_or counts n 0)) so
+    ∙ ap (λ k. cleared_up_to (namespace k) (get_or counts n 0) (cleared_first n counts keys)) (add-one n)
+    ∙ ap (λ k. cleared_first k counts keys) (sym (add-one n))
 
 -- ------------------------------------------------------------------------
 -- In a sound state

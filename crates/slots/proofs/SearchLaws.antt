@@ -1,19 +1,27 @@
 -- The search for a head with another key, namespace by namespace.
 -- Assumes nothing.
 use mathlib.Core.Path.{◌≡◌, sym, ap, ◌∙◌}
-use mathlib.Core.Bool.{Bool, true, false, ◌&&◌, ◌||◌, or-false}
-use mathlib.Core.List.{List}
-use Prim.Native.Nat.{ℕ, ◌+◌, ◌-◌, ◌*◌, ◌%◌, ◌≤◌, ◌<◌}
+use mathlib.Core.Bool.{Bool, true, false, ◌&&◌, ◌||◌, or-false, and-true, and_assoc}
+use mathlib.Core.List.{List, [], ◌∷◌}
+use Prim.Native.Nat.{ℕ, min, ◌+◌, ◌-◌, ◌*◌, ◌/◌, ◌%◌, ◌≤◌, ◌<◌}
 use native.Mathlib.Omega.{arith}
 use lib.ListN.{get_or}
-use lib.Dec.{ltb}
+use lib.Dec.{eqb, ltb}
 use borrow.Author.Tests.{lt-ltb, le-ltb}
 use Rattle.cells.specs.Cells.{cell}
-use Rattle.cells.specs.Predicates.{some_cell}
+use Rattle.cells.specs.Predicates.{same, some_cell}
 use Rattle.cells.proofs.PredicatesLaws.{then_none, some_split, some_same}
-use Rattle.rules.specs.Numbers.{namespaces, tags_most, slot_width}
-use Rattle.sound.proofs.ScanLaws.{rest, rest_next}
+use Rattle.rules.specs.Numbers.{namespaces, tags_most, slot_width, slot_places}
+use Rattle.sound.proofs.ScanLaws.{by_namespace}
 use Rattle.slots.specs.Cache.{allocated, other_key_behind}
+use Rattle.slots.specs.Search.{other_key_below, other_key_in_namespaces}
+use mathlib.Core.Logic.{by_cases}
+use native.Mathlib.Decide.{dec_lt}
+use lib.ListN.{length, take, drop}
+use lib.Seq.{take_all}
+use Rattle.std.specs.List.{fold, list_any, zip}
+use Rattle.std.specs.Simd.{first_chunks}
+use Rattle.cells.proofs.ChunksLaws.{length_chunks, take_chunks, some_cell_any}
 
 -- ------------------------------------------------------------------------
 -- The tags of a namespace that are below a count
@@ -50,9 +58,55 @@ other_at counts head key place c = allocated counts place && other_key_behind he
 abbrev pub other_below : ℕ → List ℕ → List ℕ → ℕ → List ℕ → Bool
 other_below count head key i c = ltb (i % tags_most) count && other_key_behind head key c
 
-pub other_next : (counts head key keys : List ℕ) (ns : ℕ) → ns < namespaces
-    → {b : Bool} → some_cell slot_width (ns * tags_most) tags_most (other_below (get_or counts ns 0) head key) keys ≡ b
-    → rest (other_at counts head key) keys ns ≡ b || rest (other_at counts head key) keys (ns + 1)
-other_next counts head key keys ns h =
-    rest_next (other_at counts head key) keys (other_below (get_or counts ns 0) head key) ns h
-    (λ i e c. ap (λ n. ltb (i % tags_most) (get_or counts n 0) && other_key_behind head key c) e)
+-- the slots that are looked at: a count above all of them is as good as all
+pub first_slots : (count : ℕ) (slots : List (List ℕ)) {n : ℕ} → length slots ≡ tags_most → n ≡ min count tags_most → take n slots ≡ take count slots
+first_slots count slots size is =
+    by_cases (dec_lt count tags_most)
+    (λ less. let e : min count tags_most ≡ count = omega arith in rw (is, e))
+    (λ more.
+    let e : min count tags_most ≡ tags_most = omega arith in
+    rw (is, e, take_all tags_most slots (omega arith), take_all count slots (omega arith)))
+
+below_is : (head key keys : List ℕ) (ns count : ℕ)
+    → some_cell slot_width (ns * tags_most) tags_most (other_below count head key) keys
+    ≡ other_key_below head key count (first_chunks slot_width tags_most (drop (ns * tags_most * slot_width) keys))
+below_is head key keys ns count =
+    let ys : List ℕ = drop (ns * tags_most * slot_width) keys in
+    let f : List ℕ → Bool = (λ c. other_key_behind head key c) in
+    by_cases (dec_lt count tags_most)
+    (λ less.
+    sym (below_count (λ i c. other_key_behind head key c) keys ns count count (omega arith) (omega arith) (λ k ge b. ge))
+    ∙ some_cell_any slot_width (ns * tags_most) count f keys
+    ∙ ap (list_any f) (sym (take_chunks slot_width count tags_most ys (omega arith))))
+    (λ more.
+    let l = length_chunks slot_width tags_most ys in
+    sym (below_count (λ i c. other_key_behind head key c) keys ns count tags_most (omega arith) (omega arith) (λ k ge b. absurd (omega arith)))
+    ∙ some_cell_any slot_width (ns * tags_most) tags_most f keys
+    ∙ ap (list_any f) (sym (take_all count (first_chunks slot_width tags_most ys) (omega arith))))
+
+-- the search, namespace by namespace
+pub search_is : (counts head key keys : List ℕ) → length counts ≡ namespaces
+    → other_key_in_namespaces counts head key (first_chunks slot_width slot_places keys)
+    ≡ some_cell slot_width 0 slot_places (other_at counts head key) keys
+search_is counts head key keys size =
+    let n : length (first_chunks slot_width slot_places keys) / tags_most ≡ namespaces = omega (arith, length_chunks slot_width slot_places keys) in
+    ap (λ k. list_any (λ p. other_key_below head key p.0 p.1) (zip counts (first_chunks tags_most k (first_chunks slot_width slot_places keys)))) n
+    ∙ by_namespace (other_at counts head key) (λ count. other_below count head key) (other_key_below head key) counts keys (record {
+      size = size;
+      place = λ ns i e c. ap (λ k. ltb (i % tags_most) (get_or counts k 0) && other_key_behind head key c) e;
+      each = below_is head key keys;
+    })
+
+-- ------------------------------------------------------------------------
+-- Two runs of bytes, two by two
+
+fold_from : (same_so_far : Bool) (xs ys : List ℕ) → length xs ≡ length ys
+    → fold (λ so p. so && eqb p.0 p.1) same_so_far (zip xs ys) ≡ same_so_far && same xs ys
+unfolding same
+fold_from b [] [] l = sym (and-true b)
+fold_from b [] (y ∷ ys) l = absurd (omega arith)
+fold_from b (x ∷ xs) [] l = absurd (omega arith)
+fold_from b (x ∷ xs) (y ∷ ys) l = fold_from (b && eqb x y) xs ys (omega arith) ∙ and_assoc b (eqb x y) (same xs ys)
+
+pub fold_same : (xs ys : List ℕ) → length xs ≡ length ys → fold (λ so p. so && eqb p.0 p.1) true (zip xs ys) ≡ same xs ys
+fold_same xs ys l = fold_from true xs ys l

@@ -4,22 +4,29 @@
 use mathlib.Core.Path.{◌≡◌, refl, sym, ap, ◌∙◌}
 use mathlib.Core.Bool.{Bool, true, false, not, ◌||◌, true≢false}
 use mathlib.Core.List.{List, [], ◌∷◌}
-use Prim.Native.Nat.{ℕ, ◌+◌, ◌-◌, ◌*◌, ◌/◌, ◌%◌, ◌≤◌, ◌<◌}
+use Prim.Native.Nat.{ℕ, zero, suc, min, ◌+◌, ◌-◌, ◌*◌, ◌/◌, ◌%◌, ◌≤◌, ◌<◌}
 use native.Mathlib.Omega.{arith}
-use lib.ListN.{length, get_or}
+use native.Mathlib.Numerals.{add-one}
+use lib.ListN.{length, get_or, take, drop, drop_of_length-le}
+use lib.Seq.{drop-drop, drop-cons, take_all}
+use mathlib.Core.Logic.{by_cases}
+use native.Mathlib.Decide.{dec_lt}
+use native.Mathlib.Nat.{add-zero}
+use Rattle.std.specs.List.{fold, flat_map, list_any, zip}
+use Rattle.std.specs.Simd.{first_chunks}
+use Rattle.cells.proofs.ChunksLaws.{length_chunks, take_chunks, drop_chunks, some_cell_any}
+use Rattle.sound.specs.Scan.{namespace_unsound, some_namespace_unsound}
 use lib.Dec.{leb, ltb}
 use borrow.Author.Tests.{le-leb, lt-leb}
-use Rattle.cells.specs.Cells.{part, cell}
+use Rattle.cells.specs.Cells.{cell}
 use Rattle.cells.specs.Predicates.{all_zero, some_cell}
-use Rattle.cells.proofs.CellsLaws.{part_cell}
-use Rattle.cells.proofs.PredicatesLaws.{some_start, some_split, some_same, marked, some_marked}
-use Rattle.rules.specs.Numbers.{namespaces, pool_slots, tags_most, uid_most, slot_width, slot_places, cache_size}
+use Rattle.cells.proofs.PredicatesLaws.{some_start, some_split, some_same, some_marked}
+use Rattle.rules.specs.Numbers.{namespaces, pool_slots, tags_most, slot_width, slot_places, cache_size}
 use Rattle.rules.specs.View.{view_of, tag_above}
 use Rattle.rules.specs.State.{State, total}
 use Rattle.rules.specs.Slots.{namespace_at, tag_at, empty}
-use Rattle.rules.specs.Sound.{some_above, after_uid, slot_unsound, unsound}
+use Rattle.rules.specs.Sound.{some_above, slot_unsound, unsound}
 use Rattle.rules.proofs.StateLaws.{right_cache}
-use Rattle.rules.proofs.SlotsLaws.{length_at}
 use Rattle.rules.proofs.SoundLaws.{empty_is, unallocated_is}
 
 -- ------------------------------------------------------------------------
@@ -47,6 +54,42 @@ module _ (f : ℕ → List ℕ → Bool) (keys : List ℕ) where
   pub rest_end : (ns : ℕ) → ns ≡ namespaces → rest f keys ns ≡ false
   rest_end ns e = ap (rest f keys) e ∙ some_start slot_width f slot_places keys
 
+-- The slots and the counts, namespace by namespace: the test of a slot at a place is f, that of one in a namespace with a count g, and
+-- that of the slots of a namespace with a count t.
+module _ (f : ℕ → List ℕ → Bool) (g : ℕ → ℕ → List ℕ → Bool) (t : ℕ → List (List ℕ) → Bool) (counts keys : List ℕ) where
+  pub record Agree : Type 0 where
+    pub size : length counts ≡ namespaces
+    pub place : (ns i : ℕ) → i / tags_most ≡ ns → (c : List ℕ) → f i c ≡ g (get_or counts ns 0) i c
+    pub each : (ns count : ℕ) → some_cell slot_width (ns * tags_most) tags_most (g count) keys
+        ≡ t count (first_chunks slot_width tags_most (drop (ns * tags_most * slot_width) keys))
+
+  from_namespace : Agree → (k ns : ℕ) → k + ns ≡ namespaces
+      → list_any (λ p. t p.0 p.1)
+      (zip (drop ns counts) (first_chunks tags_most k (first_chunks slot_width (k * tags_most) (drop (ns * tags_most * slot_width) keys))))
+      ≡ rest f keys ns
+  from_namespace a zero ns e =
+      let all : ns ≡ namespaces = omega arith in
+      let none : drop ns counts ≡ [] = drop_of_length-le counts {i = ns} (omega (arith, a.size)) in
+      rw none (sym (rest_end f keys ns all))
+  from_namespace a (suc k) ns e =
+      let ys : List ℕ = drop (ns * tags_most * slot_width) keys in
+      let count : ℕ = get_or counts ns 0 in
+      let first : drop ns counts ≡ get_or counts ns 0 ∷ drop (suc ns) counts = drop-cons counts ns 0 (omega (arith, a.size)) in
+      let here = take_chunks slot_width tags_most (suc k * tags_most) ys (omega arith) in
+      let n : suc k * tags_most - tags_most ≡ k * tags_most = omega arith in
+      let j : ns * tags_most * slot_width + tags_most * slot_width ≡ suc ns * tags_most * slot_width = omega arith in
+      let behind = drop_chunks slot_width tags_most (suc k * tags_most) ys (omega arith)
+      ∙ ap (λ m. first_chunks slot_width m (drop (tags_most * slot_width) ys)) n
+      ∙ ap (first_chunks slot_width (k * tags_most)) (drop-drop (tags_most * slot_width) (ns * tags_most * slot_width) keys ∙ ap (λ m. drop m keys) j) in
+      rw (first, here, behind)
+      (ap (λ b. t count (first_chunks slot_width tags_most ys) || b) (from_namespace a k (suc ns) (omega arith))
+      ∙ ap (λ m. t count (first_chunks slot_width tags_most ys) || rest f keys m) (sym (add-one ns))
+      ∙ sym (rest_next f keys (g count) ns (omega arith) (a.place ns) (a.each ns count)))
+
+  pub by_namespace : Agree → list_any (λ p. t p.0 p.1) (zip counts (first_chunks tags_most namespaces (first_chunks slot_width slot_places keys)))
+      ≡ some_cell slot_width 0 slot_places f keys
+  by_namespace a = from_namespace a namespaces 0 refl
+
 -- ------------------------------------------------------------------------
 -- Soundness: a slot at an unallocated tag is sound when its bytes are zero
 
@@ -62,41 +105,80 @@ unallocated_marked c = go (empty c) refl
     go true e = sym (empty_is c true e)
     go false e = sym (unallocated_is c e) ∙ ap not (sym (loaded_marked c e))
 
--- the bytes after a KeyUID, where they stand in the cache
-pub after_at : (keys : List ℕ) (place : ℕ) → length keys ≡ cache_size → place < slot_places
-    → (n : ℕ) → get_or keys (place * slot_width) 0 ≡ n → n ≤ uid_most
-    → after_uid (cell slot_width place keys) ≡ part (place * slot_width + (1 + n)) (uid_most - n) keys
-after_at keys place size inside n e h =
-    ap (λ k. part (1 + k) (uid_most - k) (cell slot_width place keys)) (length_at keys place ∙ e)
-    ∙ part_cell slot_width place (1 + n) (uid_most - n) keys (omega arith) (omega arith)
-
--- the tests of a slot at an allocated tag, and of one in a namespace with this tag count
-abbrev pub allocated_unsound : ℕ → List ℕ → Bool
-allocated_unsound i c = slot_unsound false c
-
+-- the test of a slot in a namespace with this tag count
 abbrev pub unsound_by : ℕ → ℕ → List ℕ → Bool
 unsound_by count i c = slot_unsound (leb count (i % tags_most)) c
 
-pub namespace_unsound : (keys : List ℕ) (ns count : ℕ) → count ≤ tags_most
+-- n slots are at allocated tags: as many as the count says, or all where it says more
+namespace_by : (keys : List ℕ) (ns count n : ℕ) → n ≤ tags_most → n ≤ count → ((k : ℕ) → n ≤ k → k < tags_most → count ≤ k)
     → some_cell slot_width (ns * tags_most) tags_most (unsound_by count) keys
-    ≡ some_cell slot_width (ns * tags_most) count allocated_unsound keys
-    || not (all_zero (part ((ns * tags_most + count) * slot_width) ((tags_most - count) * slot_width) keys))
-namespace_unsound keys ns count h =
+    ≡ list_any (λ c. slot_unsound false c) (first_chunks slot_width n (drop (ns * tags_most * slot_width) keys))
+    || list_any (λ c. slot_unsound true c) (first_chunks slot_width (tags_most - n) (drop ((ns * tags_most + n) * slot_width) keys))
+namespace_by keys ns count n h l above =
     let first : ℕ = ns * tags_most in
-    let n : tags_most ≡ count + (tags_most - count) = omega arith in
-    let below : (k : ℕ) → k < count → leb count ((ns * tags_most + k) % tags_most) ≡ false =
-    (λ k l. lt-leb count ((ns * tags_most + k) % tags_most) (omega arith)) in
-    let above : (k : ℕ) → k < tags_most - count → leb count ((ns * tags_most + count + k) % tags_most) ≡ true =
-    (λ k l. le-leb count ((ns * tags_most + count + k) % tags_most) (omega arith)) in
-    ap (λ k. some_cell slot_width first k (unsound_by count) keys) n
-    ∙ some_split slot_width (unsound_by count) first count (tags_most - count) keys
-    ∙ ap (λ b. b || some_cell slot_width (first + count) (tags_most - count) (unsound_by count) keys)
-    (some_same slot_width (unsound_by count) allocated_unsound first count keys
-    (λ k l. ap (λ u. slot_unsound u (cell slot_width (first + k) keys)) (below k l)))
-    ∙ ap (λ b. some_cell slot_width first count allocated_unsound keys || b)
-    (some_same slot_width (unsound_by count) marked (first + count) (tags_most - count) keys
-    (λ k l. ap (λ u. slot_unsound u (cell slot_width (first + count + k) keys)) (above k l) ∙ unallocated_marked (cell slot_width (first + count + k) keys))
-    ∙ sym (some_marked slot_width (first + count) (tags_most - count) keys))
+    let all : tags_most ≡ n + (tags_most - n) = omega arith in
+    let at : (k : ℕ) → k < n → leb count ((ns * tags_most + k) % tags_most) ≡ false =
+    (λ k b. lt-leb count ((ns * tags_most + k) % tags_most) (omega arith)) in
+    let tag : (k : ℕ) → k < tags_most - n → (ns * tags_most + n + k) % tags_most ≡ n + k = (λ k b. omega arith) in
+    let past : (k : ℕ) → k < tags_most - n → leb count ((ns * tags_most + n + k) % tags_most) ≡ true =
+    (λ k b. le-leb count ((ns * tags_most + n + k) % tags_most) (rw (tag k b) (above (n + k) (omega arith) (omega arith)))) in
+    ap (λ k. some_cell slot_width first k (unsound_by count) keys) all
+    ∙ some_split slot_width (unsound_by count) first n (tags_most - n) keys
+    ∙ ap (λ b. b || some_cell slot_width (first + n) (tags_most - n) (unsound_by count) keys)
+    (some_same slot_width (unsound_by count) (λ i c. slot_unsound false c) first n keys
+    (λ k b. ap (λ u. slot_unsound u (cell slot_width (first + k) keys)) (at k b))
+    ∙ some_cell_any slot_width first n (λ c. slot_unsound false c) keys)
+    ∙ ap (λ b. list_any (λ c. slot_unsound false c) (first_chunks slot_width n (drop (first * slot_width) keys)) || b)
+    (some_same slot_width (unsound_by count) (λ i c. slot_unsound true c) (first + n) (tags_most - n) keys
+    (λ k b. ap (λ u. slot_unsound u (cell slot_width (first + n + k) keys)) (past k b))
+    ∙ some_cell_any slot_width (first + n) (tags_most - n) (λ c. slot_unsound true c) keys)
+
+pub namespace_is : (keys : List ℕ) (ns count : ℕ)
+    → some_cell slot_width (ns * tags_most) tags_most (unsound_by count) keys
+    ≡ namespace_unsound count (first_chunks slot_width tags_most (drop (ns * tags_most * slot_width) keys))
+namespace_is keys ns count =
+    let ys : List ℕ = drop (ns * tags_most * slot_width) keys in
+    by_cases (dec_lt count tags_most)
+    (λ less.
+    let at = drop-drop (count * slot_width) (ns * tags_most * slot_width) keys in
+    let sum : ns * tags_most * slot_width + count * slot_width ≡ (ns * tags_most + count) * slot_width = omega arith in
+    namespace_by keys ns count count (omega arith) (omega arith) (λ k ge b. ge)
+    ∙ ap (λ cs. list_any (λ c. slot_unsound false c) cs
+    || list_any (λ c. slot_unsound true c) (first_chunks slot_width (tags_most - count) (drop ((ns * tags_most + count) * slot_width) keys)))
+    (sym (take_chunks slot_width count tags_most ys (omega arith)))
+    ∙ ap (λ cs. list_any (λ c. slot_unsound false c) (take count (first_chunks slot_width tags_most ys)) || list_any (λ c. slot_unsound true c) cs)
+    (ap (first_chunks slot_width (tags_most - count)) (sym (at ∙ ap (λ k. drop k keys) sum))
+    ∙ sym (drop_chunks slot_width count tags_most ys (omega arith))))
+    (λ more.
+    let l = length_chunks slot_width tags_most ys in
+    let front : take count (first_chunks slot_width tags_most ys) ≡ first_chunks slot_width tags_most ys =
+    take_all count (first_chunks slot_width tags_most ys) (omega arith) in
+    let none : drop count (first_chunks slot_width tags_most ys) ≡ [] =
+    drop_of_length-le (first_chunks slot_width tags_most ys) {i = count} (omega arith) in
+    namespace_by keys ns count tags_most (omega arith) (omega arith) (λ k ge b. absurd (omega arith)) ∙ (rw (front, none)))
+
+-- the slots behind a count, by one look at their bytes
+each_marked : (cs : List (List ℕ)) → list_any (λ c. not (all_zero c)) cs ≡ list_any (λ c. slot_unsound true c) cs
+each_marked [] = refl
+each_marked (c ∷ cs) = rw (unallocated_marked c, each_marked cs)
+
+pub behind_marked : (behind : List (List ℕ)) → not (all_zero (flat_map (λ x. x) behind)) ≡ list_any (λ c. slot_unsound true c) behind
+behind_marked behind = some_marked behind ∙ each_marked behind
+
+-- a count above all the slots of a namespace is as good as all
+pub namespace_split : (count : ℕ) (slots : List (List ℕ)) {m : ℕ} {front behind : List (List ℕ)}
+    → length slots ≡ tags_most → m ≡ min count tags_most → front ≡ take m slots → behind ≡ drop m slots
+    → list_any (λ c. slot_unsound false c) front || list_any (λ c. slot_unsound true c) behind ≡ namespace_unsound count slots
+namespace_split count slots size is f b =
+    by_cases (dec_lt count tags_most)
+    (λ less. let e : min count tags_most ≡ count = omega arith in rw (f, b, is, e))
+    (λ more.
+    let e : min count tags_most ≡ tags_most = omega arith in
+    let all : take tags_most slots ≡ slots = take_all tags_most slots (omega arith) in
+    let front : take count slots ≡ slots = take_all count slots (omega arith) in
+    let none : drop tags_most slots ≡ [] = drop_of_length-le slots {i = tags_most} (omega arith) in
+    let behind : drop count slots ≡ [] = drop_of_length-le slots {i = count} (omega arith) in
+    rw (f, b, is, e, all, none, front, behind))
 
 -- ------------------------------------------------------------------------
 -- Soundness of the slots, namespace by namespace, and of the whole state
@@ -105,12 +187,36 @@ namespace_unsound keys ns count h =
 abbrev pub unsound_at : List ℕ → ℕ → List ℕ → Bool
 unsound_at counts place c = slot_unsound (leb (get_or counts (place / tags_most) 0) (place % tags_most)) c
 
-pub unsound_next : (counts keys : List ℕ) (ns : ℕ) → ns < namespaces
-    → {b : Bool} → some_cell slot_width (ns * tags_most) tags_most (unsound_by (get_or counts ns 0)) keys ≡ b
-    → rest (unsound_at counts) keys ns ≡ b || rest (unsound_at counts) keys (ns + 1)
-unsound_next counts keys ns h =
-    rest_next (unsound_at counts) keys (unsound_by (get_or counts ns 0)) ns h
-    (λ i e c. ap (λ k. slot_unsound (leb (get_or counts k 0) (i % tags_most)) c) e)
+pub slots_are : (counts keys : List ℕ) → length counts ≡ namespaces
+    → some_namespace_unsound counts (first_chunks slot_width slot_places keys) ≡ some_cell slot_width 0 slot_places (unsound_at counts) keys
+slots_are counts keys size =
+    let n : length (first_chunks slot_width slot_places keys) / tags_most ≡ namespaces = omega (arith, length_chunks slot_width slot_places keys) in
+    ap (λ k. list_any (λ p. namespace_unsound p.0 p.1) (zip counts (first_chunks tags_most k (first_chunks slot_width slot_places keys)))) n
+    ∙ by_namespace (unsound_at counts) unsound_by namespace_unsound counts keys (record {
+      size = size;
+      place = λ ns i e c. ap (λ k. slot_unsound (leb (get_or counts k 0) (i % tags_most)) c) e;
+      each = namespace_is keys;
+    })
+
+-- ------------------------------------------------------------------------
+-- The counts
+
+pub above_any : (most : ℕ) (ns : List ℕ) → list_any (λ n. ltb most n) ns ≡ some_above most ns
+unfolding some_above
+above_any most [] = refl
+above_any most (n ∷ ns) = ap (λ b. ltb most n || b) (above_any most ns)
+
+total_from : (a : ℕ) (ns : List ℕ) → fold (λ s n. s + n) a ns ≡ a + total ns
+total_from a [] = sym (add-zero a)
+total_from a (n ∷ ns) =
+    let e : a + n + total ns ≡ a + (n + total ns) = omega arith in
+    total_from (a + n) ns ∙ e
+
+pub total_is : (ns : List ℕ) → fold (λ s n. s + n) 0 ns ≡ total ns
+total_is ns = total_from 0 ns ∙ (omega arith)
+
+-- ------------------------------------------------------------------------
+-- The whole state
 
 -- in a cache of its length the counts decide, and then the slots
 module _ (s : State) (size : length s.keys ≡ cache_size) where

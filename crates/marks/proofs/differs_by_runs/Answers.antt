@@ -1,49 +1,23 @@
--- `differs_by_runs` meets its contract: no block so far differs.
+-- `differs_by_runs` meets its contract: one of the runs has a mark that differs, or one of the marks behind them does.
 -- Assumes nothing.
-use borrow.Author.Rules.{rules}
-use native.Mathlib.Omega.{arith}
-use mathlib.Core.Path.{◌≡◌, refl, sym, ap, ◌∙◌}
-use Prim.Native.Nat.{◌+◌, ◌-◌}
-use Rattle.cells.specs.Predicates.{some_cell}
-use Rattle.cells.proofs.PredicatesLaws.{some_start}
-use Rattle.rules.specs.Numbers.{mark_width}
-use Rattle.rules.specs.Marks.{differs}
-use Rattle.marks.specs.Runs.{run}
-use Rattle.marks.proofs.StoreLaws.{fill_whole, some_within, some_after}
+use mathlib.Core.Path.{sym, ◌∙◌}
+use Rattle.std.proofs.Common.{rules, tests}
+use Rattle.std.proofs.lemmas.Iterator.{YieldsList-from_slice}
+use Rattle.std.proofs.lemmas.Iterator.Search.{any_from_yields_List}
+use Rattle.marks.specs.Runs.{one_differs}
+use Rattle.marks.proofs.StoreLaws.{by_runs}
 use Rattle.marks.proofs.differs_by_runs.Goals as goal
 
-pub loop-k-init : goal.loop-k-init
-loop-k-init c =
-    let s = c.args in
-    (omega arith, c.mark_each.ensures ∙ fill_whole mark_width run s.identity.now _ refl, some_start mark_width _ _ _)
+pub returns-then-any : goal.returns-then-any
+returns-then-any c =
+    let in_a_run = any_from_yields_List (λ run. one_differs c.args.identity.now run) _ _ c.any.result c.any.ensures.ran
+    (YieldsList-from_slice _ (c.iter.ensures.rest ∙ c.as_chunks.ensures.front)) (λ x b q k. search (rules, tests)) in
+    c.if-any.true
+    ∙ sym (by_runs c.args.identity.now c.args.marks.now c.as_chunks.result.1.now (sym c.if-any.true ∙ in_a_run) c.as_chunks.ensures.back)
 
-pub differs_in_run-requires : goal.differs_in_run-requires
-differs_in_run-requires c =
-    (search rules, omega arith, omega arith, c.loop-k.invariant.1)
-
-pub returns-then-differs_in_run : goal.returns-then-differs_in_run
-returns-then-differs_in_run c =
-    let s = c.args in
-    let l = c.loop-k in
-    some_within mark_width (λ block m. differs s.identity.now m) s.marks.now s.first s.n (s.first + l.k)
-    run (omega arith) (omega arith) (sym c.differs_in_run.ensures ∙ c.if-differs_in_run.true)
-
-pub loop-k-preserved : goal.loop-k-preserved
-loop-k-preserved c =
-    let s = c.args in
-    let l = c.loop-k in (
-      omega arith,
-      l.invariant.1,
-      sym (some_after mark_width (λ block m. differs s.identity.now m) s.marks.now s.first l.k run l.invariant.2)
-          ∙ sym c.differs_in_run.ensures
-          ∙ c.if-differs_in_run.false,
-    )
-
-pub returns : goal.returns
-returns c =
-    let s = c.args in
-    let l = c.loop-k in
-    let all : l.k + (s.n - l.k) ≡ s.n = omega arith in
+pub returns-else-any : goal.returns-else-any
+returns-else-any c =
+    let in_a_run = any_from_yields_List (λ run. one_differs c.args.identity.now run) _ _ c.any.result c.any.ensures.ran
+    (YieldsList-from_slice _ (c.iter.ensures.rest ∙ c.as_chunks.ensures.front)) (λ x b q k. search (rules, tests)) in
     c.differs_each.ensures
-    ∙ some_after mark_width (λ block m. differs s.identity.now m) s.marks.now s.first l.k (s.n - l.k) l.invariant.2
-    ∙ ap (λ j. some_cell mark_width s.first j (λ block m. differs s.identity.now m) s.marks.now) all
+    ∙ sym (by_runs c.args.identity.now c.args.marks.now c.as_chunks.result.1.now (sym c.if-any.false ∙ in_a_run) c.as_chunks.ensures.back)

@@ -1,23 +1,12 @@
--- `differs_in_run` meets its contract: a run that is copies of the identity has no block that differs.
+-- `differs_in_run` meets its contract: a run that is copies of the identity has no mark that differs.
 -- Assumes nothing.
-use native.Mathlib.Omega.{arith}
-use mathlib.Core.Path.{refl, sym, ◌∙◌}
-use Prim.Native.Nat.{◌*◌}
-use Rattle.cells.proofs.PredicatesLaws.{same_eq, same_part_lem}
-use Rattle.rules.specs.Numbers.{mark_width}
-use Rattle.rules.specs.Marks.{differs}
-use Rattle.rules.proofs.MarksLaws.{same_differs}
-use Rattle.marks.specs.Runs.{run}
-use Rattle.marks.proofs.StoreLaws.{none_of_copies}
+use mathlib.Core.Path.{sym, ◌∙◌}
+use borrow.Author.Tests.{not-false}
+use Rattle.cells.proofs.PredicatesLaws.{pointwise_same, same_eq}
+use Rattle.marks.proofs.StoreLaws.{pattern_same}
 use Rattle.marks.proofs.differs_in_run.Goals as goal
 
-pub returns-then-same_part : goal.returns-then-same_part
-returns-then-same_part c =
-    let s = c.args in
-    sym (none_of_copies mark_width s.first run (λ block m. differs s.identity.now m) s.identity.now s.marks.now (omega arith) (omega arith)
-    (λ j. same_differs s.identity.now s.identity.now refl)
-    (same_eq _ _
-    (sym (same_part_lem (s.first * mark_width) (run * mark_width) s.marks.now s.pattern.now (omega arith))
-    ∙ sym c.same_part.ensures
-    ∙ c.if-same_part.true)
-    ∙ c.requires.3))
+pub returns-else-ne : goal.returns-else-ne
+returns-else-ne c =
+    let same = sym (pointwise_same c.args.marks.now c.args.pattern.now) ∙ not-false _ (sym c.ne.ensures ∙ c.if-ne.false) in
+    c.if-ne.false ∙ sym (pattern_same c.args.identity.now c.args.marks.now c.told-identity c.told-marks (same_eq _ _ same ∙ c.requires))

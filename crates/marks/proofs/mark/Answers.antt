@@ -1,53 +1,31 @@
 -- `mark` meets its contract: each return is one of the tests.
 -- Assumes nothing.
-use native.Mathlib.Omega.{arith}
-use mathlib.Core.Path.{◌∙◌}
-use Prim.Native.Nat.{◌-◌}
+use mathlib.Core.Path.{sym, ◌∙◌}
 use lib.ListN.{length}
-use borrow.Author.Tests.{eq-eqb, ne_eqb, le-leb, lt-leb}
-use Rattle.rules.specs.Numbers.{mark_width, mark_places, store_size}
-use Rattle.marks.specs.Store.{marked}
+use borrow.Author.Tests.{ne_eqb}
+use mathlib.Core.Bool.{and-false}
+use Rattle.rules.specs.Numbers.{mark_width}
+use Rattle.marks.specs.Store.{in_store, marked}
+use Rattle.marks.proofs.StoreLaws.{marked_is}
 use Rattle.marks.proofs.mark.Goals as goal
 
-pub returns-then-marks-ne-STORE_SIZE : goal.returns-then-marks-ne-STORE_SIZE
+pub returns-in_default : goal.returns-in_default
 unfolding marked
-returns-then-marks-ne-STORE_SIZE c =
-    rw (ne_eqb (length c.args.marks.now) store_size c.if-marks-ne-STORE_SIZE.true)
+returns-in_default c =
+    rw (ne_eqb (length c.args.identity.now) mark_width c.in_default.ensures.cases, and-false (in_store c.args.marks.now c.args.first c.args.n))
 
-pub returns-then-first-gt-MARK_PLACES : goal.returns-then-first-gt-MARK_PLACES
+pub returns-then-not-in_store : goal.returns-then-not-in_store
 unfolding marked
-returns-then-first-gt-MARK_PLACES c =
-    rw (eq-eqb (length c.args.marks.now) store_size c.if-marks-ne-STORE_SIZE.false, lt-leb c.args.first mark_places c.if-first-gt-MARK_PLACES.true)
+returns-then-not-in_store c = rw (sym c.in_store.ensures ∙ c.if-not-in_store.true)
 
-pub returns-then-n-first : goal.returns-then-n-first
-unfolding marked
-returns-then-n-first c =
-    let s = c.args in
-    rw (
-      eq-eqb (length s.marks.now) store_size c.if-marks-ne-STORE_SIZE.false,
-      le-leb s.first mark_places c.if-first-gt-MARK_PLACES.false,
-      lt-leb s.n (mark_places - s.first) c.if-n-first.true,
-    )
+pub returns-then-n-lt-LONG_MARKS : goal.returns-then-n-lt-LONG_MARKS
+returns-then-n-lt-LONG_MARKS c =
+    let whole = c.in-Some.ensures.cases in
+    let there = sym c.in_store.ensures ∙ c.if-not-in_store.false in
+    marked_is c.args.first c.args.n c.args.identity.now c.args.marks.now there whole.long (rw whole.same at c.set_each.ensures)
 
-pub returns-then-identity-ne-MARK_WIDTH : goal.returns-then-identity-ne-MARK_WIDTH
-unfolding marked
-returns-then-identity-ne-MARK_WIDTH c =
-    let s = c.args in
-    rw (
-      eq-eqb (length s.marks.now) store_size c.if-marks-ne-STORE_SIZE.false,
-      le-leb s.first mark_places c.if-first-gt-MARK_PLACES.false,
-      le-leb s.n (mark_places - s.first) c.if-n-first.false,
-      ne_eqb (length s.identity.now) mark_width c.if-identity-ne-MARK_WIDTH.true,
-    )
-
-pub returns : goal.returns
-unfolding marked
-returns c =
-    let s = c.args in
-    c.mark_from.ensures
-    ∙ (rw (
-      eq-eqb (length s.marks.now) store_size (omega arith),
-      le-leb s.first mark_places (omega arith),
-      le-leb s.n (mark_places - s.first) (omega arith),
-      eq-eqb (length s.identity.now) mark_width (omega arith),
-    ))
+pub returns-else-n-lt-LONG_MARKS : goal.returns-else-n-lt-LONG_MARKS
+returns-else-n-lt-LONG_MARKS c =
+    let whole = c.in-Some.ensures.cases in
+    let there = sym c.in_store.ensures ∙ c.if-not-in_store.false in
+    marked_is c.args.first c.args.n c.args.identity.now c.args.marks.now there whole.long (rw whole.same at c.set_by_runs.ensures)

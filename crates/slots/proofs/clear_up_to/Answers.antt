@@ -1,44 +1,23 @@
--- `clear_up_to` meets its contract.
+-- `clear_up_to` meets its contract: a run of slots from the namespace's first on.
 -- Assumes nothing.
 use native.Mathlib.Omega.{arith}
-use mathlib.Core.Path.{◌≡◌, sym, ap, ◌∙◌}
-use mathlib.Core.Bool.{false}
-use Prim.Native.Nat.{◌-◌, ◌*◌}
-use borrow.Author.Tests.{lt-ltb, le-ltb}
-use Rattle.cells.specs.Cells.{fill}
-use Rattle.cells.proofs.PredicatesLaws.{neither}
-use Rattle.rules.specs.Numbers.{namespaces, tags_most, slot_width}
-use Rattle.rules.specs.State.{key_tag, no_namespace}
-use Rattle.rules.specs.Slots.{place_of, emptied}
-use Rattle.slots.specs.Cache.{tags_up_to, cleared_up_to}
-use Rattle.rules.proofs.StateLaws.{wrong_cache_lem, right_cache}
-use Rattle.slots.proofs.CacheLaws.{cleared_up_to_is}
+use mathlib.Core.Path.{◌≡◌, ap, ◌∙◌}
+use mathlib.Core.Bool.{true}
+use Prim.Native.Nat.{min, ◌≤◌}
+use Rattle.std.proofs.lemmas.Bool.Decides.{nat_tests}
+use Rattle.rules.specs.Numbers.{namespaces, tags_most}
+use Rattle.rules.specs.State.{no_namespace}
+use Rattle.slots.proofs.CacheLaws.{clear_namespace, clear_no_namespace}
 use Rattle.slots.proofs.clear_up_to.Goals as goal
 
-pub returns-then-keys-ne-CACHE_SIZE : goal.returns-then-keys-ne-CACHE_SIZE
-unfolding cleared_up_to
-returns-then-keys-ne-CACHE_SIZE c =
-    rw (wrong_cache_lem c.args.keys.now c.if-keys-ne-CACHE_SIZE.true)
+pub returns-then-contains : goal.returns-then-contains
+returns-then-contains c =
+    let lo : 1 ≤ c.args.ns.0 = grind (arith, nat_tests) in
+    let hi : c.args.ns.0 ≤ namespaces = grind (arith, nat_tests) in
+    c.clear_run.ensures
+    ∙ clear_namespace c.args.ns c.args.count c.args.keys.now lo hi (c.min-tags.ensures ∙ ap (λ n. min n tags_most) c.from.ensures)
 
-pub returns-then-n-lt1 : goal.returns-then-n-lt1
-unfolding cleared_up_to
-returns-then-n-lt1 c =
-    rw (right_cache c.args.keys.now c.if-keys-ne-CACHE_SIZE.false, lt-ltb c.args.ns.0 1 c.if-n-lt1.true)
-
-pub returns-then-n-gt-NAMESPACES : goal.returns-then-n-gt-NAMESPACES
-unfolding cleared_up_to
-returns-then-n-gt-NAMESPACES c =
-    rw (
-      right_cache c.args.keys.now c.if-keys-ne-CACHE_SIZE.false,
-      le-ltb c.args.ns.0 1 c.if-n-lt1.false,
-      lt-ltb namespaces c.args.ns.0 c.if-n-gt-NAMESPACES.true,
-    )
-
-pub returns : goal.returns
-returns c =
-    let n = c.args.ns.0 in
-    let first : (c.args.ns.0 - 1) * tags_most ≡ place_of c.args.ns (key_tag 0) = omega arith in
-    let is : no_namespace c.args.ns ≡ false = neither _ _ (le-ltb n 1 (omega arith)) (le-ltb namespaces n (omega arith)) in
-    c.clear_first.ensures
-    ∙ ap (λ i. fill slot_width i (tags_up_to c.args.count) emptied c.args.keys.now) first
-    ∙ sym (cleared_up_to_is c.args.keys.now c.if-keys-ne-CACHE_SIZE.false c.args.ns c.args.count is)
+pub returns-else-contains : goal.returns-else-contains
+returns-else-contains c =
+    let none : no_namespace c.args.ns ≡ true = grind (arith, nat_tests) in
+    clear_no_namespace c.args.ns c.args.count c.args.keys.now none

@@ -1,39 +1,36 @@
--- `counts_unsound` meets its contract: no count so far is too large, and the sum is theirs.
+-- `counts_unsound` meets its contract.
 -- Assumes nothing.
-use borrow.Author.Rules.{rules}
-use native.Mathlib.Omega.{arith}
-use mathlib.Core.Path.{◌≡◌, refl, sym, ap, ◌∙◌}
+use Rattle.std.proofs.Common.{rules, tests}
+use Rattle.std.proofs.iter.runs.Sources.{sums}
+use Rattle.std.proofs.lemmas.Iterator.{YieldsList-from_slice, YieldsList-from_map}
+use Rattle.std.proofs.lemmas.Iterator.Search.{any_from_yields_List}
+use Rattle.std.proofs.lemmas.Iterator.Consumers.{sum_by_from_yields_List}
+use mathlib.Core.Path.{sym, ap, ◌∙◌}
 use mathlib.Core.Bool.{◌||◌}
-use Prim.Native.Nat.{◌≤◌, ◌<◌}
-use lib.ListN.{length}
 use lib.Dec.{ltb}
-use Rattle.rules.specs.Numbers.{namespaces, tags_most, pool_slots}
+use Rattle.std.specs.Slice.Iter.{iter_rest}
+use Rattle.std.specs.Iterator.Adapters.{map_source}
+use Rattle.rules.specs.Numbers.{tags_most, pool_slots}
 use Rattle.rules.specs.State.{total}
-use Rattle.rules.proofs.SoundLaws.{above_here, above_next, above_end, total_next, total_end}
+use Rattle.sound.proofs.ScanLaws.{above_any, total_is}
 use Rattle.sound.proofs.counts_unsound.Goals as goal
 
-pub loop-i-init : goal.loop-i-init
-loop-i-init c = (omega arith, omega arith, refl, omega arith)
+pub sum-requires-clause-fits : goal.sum-requires-clause-fits
+sum-requires-clause-fits c = search (rules, sums)
 
-pub returns-then-n-gt-TAGS_MOST : goal.returns-then-n-gt-TAGS_MOST
-returns-then-n-gt-TAGS_MOST c =
-    let counts = c.args.counts in
-    let size : length c.args.counts ≡ namespaces = search rules in
-    ap (λ b. b || ltb pool_slots (total counts)) (above_here tags_most counts c.loop-i.i (omega arith) c.if-n-gt-TAGS_MOST.true ∙ c.loop-i.invariant.2)
+pub returns-then-any : goal.returns-then-any
+returns-then-any c =
+    let above = any_from_yields_List (λ n. ltb tags_most n) _ _ c.any.result c.any.ensures.ran
+    (YieldsList-from_slice c.args.counts c.iter.ensures.rest) (λ x b q k. search (rules, tests)) in
+    c.if-any.true ∙ sym (ap (λ b. b || ltb pool_slots (total c.args.counts)) (sym (above_any tags_most c.args.counts) ∙ sym above ∙ c.if-any.true))
 
-pub loop-i-preserved : goal.loop-i-preserved
-loop-i-preserved c =
-    let counts = c.args.counts in
-    let size : length c.args.counts ≡ namespaces = search rules in
-    let here : c.loop-i.i < length c.args.counts = omega arith in
-    let sum = total_next tags_most counts c.loop-i.i here in
-    (omega arith, omega arith, above_next tags_most counts c.loop-i.i here c.if-n-gt-TAGS_MOST.false ∙ c.loop-i.invariant.2, omega arith)
-
-pub returns : goal.returns
-returns c =
-    let counts = c.args.counts in
-    let size : length c.args.counts ≡ namespaces = search rules in
-    let end : length c.args.counts ≤ c.loop-i.i = omega arith in
-    let none = total_end tags_most counts c.loop-i.i end in
-    let sum : c.loop-i.sum ≡ total c.args.counts = omega arith in
-    ap (ltb pool_slots) sum ∙ ap (λ b. b || ltb pool_slots (total counts)) (sym (above_end tags_most counts c.loop-i.i end) ∙ c.loop-i.invariant.2)
+pub returns-else-any : goal.returns-else-any
+returns-else-any c =
+    let above = any_from_yields_List (λ n. ltb tags_most n) _ _ c.any.result c.any.ensures.ran
+    (YieldsList-from_slice c.args.counts c.iter.ensures.rest) (λ x b q k. search (rules, tests)) in
+    let source = ap iter_rest c.map.ensures.source ∙ c.iter-else-any.ensures.rest in
+    let sum = sum_by_from_yields_List (λ n. n) c.args.counts c.map.result c.sum.result c.sum.ensures.ran
+    (YieldsList-from_map _ (λ n. n) (YieldsList-from_slice {s = map_source c.map.result} c.args.counts source)
+    c.map.ensures.closure (λ x r q k. search rules)) in
+    ap (ltb pool_slots) (sum ∙ total_is c.args.counts)
+    ∙ ap (λ b. b || ltb pool_slots (total c.args.counts)) (sym c.if-any.false ∙ above ∙ above_any tags_most c.args.counts)

@@ -1,29 +1,24 @@
 -- `namespace_unsound` meets its contract: the allocated slots, and all bytes behind them.
 -- Assumes nothing.
-use native.Mathlib.Omega.{arith}
-use mathlib.Core.Path.{sym, ap, ◌∙◌}
-use mathlib.Core.Bool.{Bool, not, ◌||◌}
-use mathlib.Core.List.{List}
-use Prim.Native.Nat.{ℕ, ◌+◌, ◌-◌, ◌*◌}
-use Rattle.cells.specs.Cells.{part}
+use Rattle.std.proofs.Common.{rules, tests}
+use Rattle.std.proofs.lemmas.Iterator.{YieldsList-from_slice}
+use Rattle.std.proofs.lemmas.Iterator.Search.{any_from_yields_List}
+use mathlib.Core.Path.{◌≡◌, sym, ap, ◌∙◌}
+use mathlib.Core.Bool.{true, false, not, ◌||◌}
+use Prim.Native.Nat.{min}
+use Rattle.std.specs.List.{list_any}
+use Rattle.rules.specs.Numbers.{tags_most}
+use Rattle.rules.specs.Sound.{slot_unsound}
 use Rattle.cells.specs.Predicates.{all_zero}
-use Rattle.cells.proofs.CellsLaws.{lent_is}
-use Rattle.rules.specs.Numbers.{tags_most, slot_width}
-use Rattle.sound.proofs.ScanLaws.{namespace_unsound}
+use Rattle.sound.proofs.ScanLaws.{behind_marked, namespace_split}
 use Rattle.sound.proofs.namespace_unsound.Goals as goal
 
-abbrev behind : List ℕ → ℕ → ℕ → Bool
-behind keys ns count = not (all_zero (part ((ns * tags_most + count) * slot_width) ((tags_most - count) * slot_width) keys))
-
-pub returns-then-allocated_unsound : goal.returns-then-allocated_unsound
-returns-then-allocated_unsound c =
-    let h = c.args in
-    ap (λ b. b || behind h.keys.now h.ns h.count) (sym c.if-allocated_unsound.true ∙ c.allocated_unsound.ensures)
-    ∙ sym (namespace_unsound h.keys.now h.ns h.count (omega arith))
-
-pub returns : goal.returns
-returns c =
-    let h = c.args in
-    ap not (c.all_zero.ensures ∙ ap all_zero (lent_is ((h.ns * tags_most + h.count) * slot_width) ((tags_most - h.count) * slot_width) h.keys.now))
-    ∙ ap (λ b. b || behind h.keys.now h.ns h.count) (sym c.if-allocated_unsound.false ∙ c.allocated_unsound.ensures)
-    ∙ sym (namespace_unsound h.keys.now h.ns h.count (omega arith))
+pub returns-else-any : goal.returns-else-any
+returns-else-any c =
+    let a = ap not (c.all_zero.ensures ∙ ap all_zero c.as_flattened.ensures.value) ∙ behind_marked c.split_at.result.1.now in
+    let at : c.min-count.result ≡ min c.args.count tags_most = c.min-count.ensures ∙ ap (λ n. min n tags_most) c.from.ensures in
+    let front = any_from_yields_List (λ s. slot_unsound false s) _ _ c.any.result c.any.ensures.ran
+    (YieldsList-from_slice c.split_at.result.0.now c.iter.ensures.rest) (λ x b q k. search (rules, tests)) in
+    a
+    ∙ ap (λ b. b || list_any (λ s. slot_unsound true s) c.split_at.result.1.now) (sym c.if-any.false ∙ front)
+    ∙ namespace_split c.args.count c.args.slots.now c.told-slots at c.split_at.ensures.front c.split_at.ensures.back

@@ -1,40 +1,35 @@
 -- `slot_unsound` meets its contract: each return is one way through the test.
 -- Assumes nothing.
-use mathlib.Core.Path.{refl, sym, ap, ◌∙◌}
+use native.Mathlib.Omega.{arith}
+use mathlib.Core.Path.{◌≡◌, sym, ap, ◌∙◌}
 use mathlib.Core.Bool.{false, not}
-use Prim.Native.Nat.{◌+◌, ◌-◌, ◌*◌}
-use lib.ListN.{get_or}
-use borrow.Author.Tests.{eq-eqb, ne_eqb}
-use Rattle.cells.specs.Cells.{cell}
+use Prim.Native.Nat.{◌+◌, ◌-◌}
+use lib.ListN.{take, drop}
+use borrow.Author.Tests.{eq-eqb, ne_eqb, lt-ltb}
+use Rattle.cells.specs.Cells.{part}
 use Rattle.cells.specs.Predicates.{all_zero}
-use Rattle.cells.proofs.CellsLaws.{lent_is, lent_cell}
-use Rattle.rules.specs.Numbers.{uid_most, slot_width}
+use Rattle.rules.specs.Numbers.{uid_most}
 use Rattle.rules.specs.Slots.{uid_length}
 use Rattle.rules.proofs.SoundLaws.{empty_is, long_is, rest_is}
-use Rattle.rules.proofs.SlotsLaws.{length_at}
-use Rattle.sound.proofs.ScanLaws.{after_at}
 use Rattle.sound.proofs.slot_unsound.Goals as goal
 
 pub returns-then-n-eq0 : goal.returns-then-n-eq0
 returns-then-n-eq0 c =
-    let d = cell slot_width c.args.place c.args.keys.now in
-    let e = length_at c.args.keys.now c.args.place in
-    ap not (c.all_zero.ensures ∙ ap all_zero (lent_cell slot_width c.args.place c.args.keys.now))
-    ∙ empty_is d false (eq-eqb (uid_length d) 0 (e ∙ c.if-n-eq0.true))
+    ap not c.all_zero.ensures ∙ empty_is c.args.slot.now false (eq-eqb (uid_length c.args.slot.now) 0 (sym c.from-n.ensures ∙ c.if-n-eq0.true))
 
 pub returns-then-n-gt-UID_MOST : goal.returns-then-n-gt-UID_MOST
 returns-then-n-gt-UID_MOST c =
-    let d = cell slot_width c.args.place c.args.keys.now in
-    let e = length_at c.args.keys.now c.args.place in
-    long_is d false (ne_eqb (uid_length d) 0 (λ z. c.if-n-eq0.false (sym e ∙ z))) (rw e c.if-n-gt-UID_MOST.true)
+    let n = c.from-n.ensures in
+    lt-ltb uid_most c.from-n.result c.if-n-gt-UID_MOST.true
+    ∙ long_is c.args.slot.now false (ne_eqb (uid_length c.args.slot.now) 0 (λ z. c.if-n-eq0.false (n ∙ z))) (omega arith)
 
-pub returns : goal.returns
-returns c =
-    let a = c.args in
-    let n = get_or c.args.keys.now (c.args.place * slot_width) 0 in
-    let d = cell slot_width c.args.place c.args.keys.now in
-    let e = length_at c.args.keys.now c.args.place in
-    let after = lent_is (a.place * slot_width + (1 + n)) (uid_most - n) a.keys.now
-    ∙ sym (after_at a.keys.now a.place c.requires.0 c.requires.1 n refl c.if-n-gt-UID_MOST.false) in
-    ap not (c.all_zero-2.ensures ∙ ap all_zero after)
-    ∙ rest_is d (ne_eqb (uid_length d) 0 (λ z. c.if-n-eq0.false (sym e ∙ z))) (rw e c.if-n-gt-UID_MOST.false)
+pub returns-else-n-gt-UID_MOST : goal.returns-else-n-gt-UID_MOST
+unfolding part
+returns-else-n-gt-UID_MOST c =
+    let n = c.from-n.ensures in
+    let width : uid_most + 1 - (1 + c.from-n.result) ≡ uid_most - c.from-n.result = omega arith in
+    let h = c.all_zero-else-n-gt-UID_MOST.ensures in
+    ap not (h
+    ∙ ap (λ k. all_zero (take k (drop (1 + c.from-n.result) c.args.slot.now))) width
+    ∙ ap (λ k. all_zero (take (uid_most - k) (drop (1 + k) c.args.slot.now))) n)
+    ∙ rest_is c.args.slot.now (ne_eqb (uid_length c.args.slot.now) 0 (λ z. c.if-n-eq0.false (n ∙ z))) (omega arith)

@@ -1,27 +1,22 @@
 -- `same_uid` meets its contract: the part that is compared is the slot's KeyUID.
 -- Assumes nothing.
 use native.Mathlib.Omega.{arith}
-use mathlib.Core.Path.{refl, sym, ap, ◌∙◌}
-use Prim.Native.Nat.{◌+◌, ◌-◌, ◌*◌}
-use lib.ListN.{get_or}
+use mathlib.Core.Path.{◌≡◌, sym, ap, ◌∙◌}
+use Prim.Native.Nat.{min, ◌-◌}
+use lib.ListN.{length, take, drop, length-drop}
+use lib.Seq.{length-take-le}
 use Rattle.cells.specs.Predicates.{same}
-use Rattle.cells.proofs.PredicatesLaws.{same_part_lem}
+use Rattle.cells.proofs.PredicatesLaws.{pointwise_same}
 use Rattle.rules.specs.Numbers.{slot_width}
-use Rattle.slots.proofs.CacheLaws.{uid_at, uid_all}
+use Rattle.rules.specs.Slots.{uid_length}
+use Rattle.slots.proofs.CacheLaws.{uid_taken}
 use Rattle.slots.proofs.bytes.same_uid.Goals as goal
-
-pub returns-then-n-lt-SLOT_WIDTH : goal.returns-then-n-lt-SLOT_WIDTH
-returns-then-n-lt-SLOT_WIDTH c =
-    let a = c.args in
-    let n = get_or c.args.keys.now (c.args.place * slot_width) 0 in
-    c.same_part.ensures
-    ∙ same_part_lem (a.place * slot_width + 1) n a.keys.now a.uid.now (omega arith)
-    ∙ ap (λ x. same x a.uid.now) (sym (uid_at a.keys.now a.place c.requires.0 c.requires.1 n refl (omega arith)))
 
 pub returns : goal.returns
 returns c =
-    let a = c.args in
-    let n = get_or c.args.keys.now (c.args.place * slot_width) 0 in
-    c.same_part-2.ensures
-    ∙ same_part_lem (a.place * slot_width + 1) (slot_width - 1) a.keys.now a.uid.now (omega arith)
-    ∙ ap (λ x. same x a.uid.now) (sym (uid_all a.keys.now a.place c.requires.0 c.requires.1 n refl (omega arith)))
+    let slot = c.args.slot.now in
+    let l : length (take (slot_width - 1) (drop 1 c.args.slot.now)) ≡ slot_width - 1 =
+    length-take-le (slot_width - 1) (drop 1 slot) (simp length-drop (omega arith)) in
+    let n : c.min-n.result ≡ min (uid_length c.args.slot.now) (slot_width - 1) =
+    c.min-n.ensures ∙ ap (λ k. min k (length (take (slot_width - 1) (drop 1 slot)))) c.from.ensures ∙ ap (min (uid_length slot)) l in
+    c.eq.ensures ∙ pointwise_same _ c.args.uid.now ∙ ap (λ uid. same uid c.args.uid.now) (uid_taken slot c.told-slot n)

@@ -10,7 +10,7 @@ unfolding other_key_behind
 returns-then-same_head c =
     rw (sym c.same_head.ensures ∙ c.if-same_head.true) (ap not c.same_key.ensures)
 
-pub returns : goal.returns
+pub returns-else-same_head : goal.returns-else-same_head
 unfolding other_key_behind
-returns c =
-    rw (sym c.same_head.ensures ∙ c.if-same_head.false)
+returns-else-same_head c =
+    rw (sym c.same_head.ensures ∙ c.if-same_head.false) c.if-same_head.false
