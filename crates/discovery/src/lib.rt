@@ -16,11 +16,11 @@ use rules::{
     Refusal, TPER_SIZE,
 };
 
-// Where the two features that we look for first stand, 0 where there is none; or that a feature runs past the end.
+// The two features that we look for, the first of each.
 #[derive(Clone, Copy)]
-pub(crate) enum Walked {
-    Places(usize, usize),
-    RunsPast,
+pub(crate) struct Found<'a> {
+    pub tper: Option<&'a [u8]>,
+    pub key_per_io: Option<&'a [u8]>,
 }
 
 const TPER_AT: usize = HEADER_SIZE;
@@ -61,21 +61,21 @@ pub fn write(fields: DiscoveryFields, out: &mut [u8]) -> Answer
 }
 
 // What a host finds in any bytes. The length is a number of 32 bits, so that its end does not wrap in 64.
+#[tactic(auto, unfolding(rules::specs::Discovering::discovered, rules::specs::Discovering::found_in))]
 pub fn read(bytes: &[u8]) -> Result<Discovered, Refusal>
     ensures { result ≡ discovered bytes.now }
 {
-    if bytes.len() < HEADER_SIZE {
+    let Some(header) = bytes.first_chunk::<HEADER_SIZE>() else {
         return Err(Refusal::NotAResponse);
-    }
-    let end = LENGTH_SIZE + reading::dword(bytes, 0) as usize;
-    if end < HEADER_SIZE {
+    };
+    let end = LENGTH_SIZE + reading::dword(header, 0) as usize;
+    let Some(features) = bytes.get(HEADER_SIZE..end) else {
         return Err(Refusal::NotAResponse);
-    }
-    if bytes.len() < end {
-        return Err(Refusal::NotAResponse);
-    }
-    match finding::walk(bytes, end) {
-        Walked::Places(tper, key_per_io) => Ok(reading::found(bytes, tper, key_per_io)),
-        Walked::RunsPast => Err(Refusal::NotAResponse),
-    }
+    };
+    let found = finding::find(features)?;
+    Ok(Discovered {
+        header: reading::header(header),
+        tper: found.tper.and_then(reading::tper),
+        key_per_io: found.key_per_io.and_then(reading::key_per_io),
+    })
 }
