@@ -11,9 +11,9 @@ use crate::Found;
 use crate::reading::word;
 use rules::{HEAD_SIZE, Refusal};
 
-const TPER_CODE: u16 = 0x0001;
+pub(crate) const TPER_CODE: u16 = 0x0001;
 
-const KEY_PER_IO_CODE: u16 = 0x0305;
+pub(crate) const KEY_PER_IO_CODE: u16 = 0x0305;
 
 // The first of some features, and those behind it; 07 16 where its head or its length runs past the end.
 fn split_first(features: &[u8]) -> Result<(&[u8], &[u8]), Refusal>

@@ -28,35 +28,30 @@ const TPER_AT: usize = HEADER_SIZE;
 const KEY_PER_IO_AT: usize = HEADER_SIZE + TPER_SIZE;
 
 // What the drive says of itself.
+#[tactic(auto, unfolding(rules::specs::Discovery::own_fields))]
 pub fn own_fields() -> DiscoveryFields
     ensures { result ≡ own_fields }
 {
-    let header = own::header();
-    let tper = own::tper();
-    let key_per_io = own::key_per_io();
     DiscoveryFields {
-        header,
-        tper,
-        key_per_io,
+        header: own::header(),
+        tper: own::tper(),
+        key_per_io: own::key_per_io(),
     }
 }
 
 // The response goes to the front of the output; an output that is too short stays.
+#[tactic(auto, unfolding(rules::specs::Discovering::respond))]
 pub fn write(fields: DiscoveryFields, out: &mut [u8]) -> Answer
     ensures { record { answer = result; out = out.new } ≡ respond fields out.old }
 {
     if out.len() < DISCOVERY_SIZE {
         return Err(Refusal::OutputTooShort);
     }
-    let header = fields.header;
-    let tper = fields.tper;
-    let key_per_io = fields.key_per_io;
-    let header_bytes = writing::header_bytes(header);
-    let tper_bytes = writing::tper_bytes(tper);
-    let key_per_io_bytes = writing::key_per_io_bytes(key_per_io);
-    cells::copy(&mut out[..TPER_AT], &header_bytes);
-    cells::copy(&mut out[TPER_AT..KEY_PER_IO_AT], &tper_bytes);
-    cells::copy(&mut out[KEY_PER_IO_AT..DISCOVERY_SIZE], &key_per_io_bytes);
+    out[..TPER_AT].copy_from_slice(&writing::header_bytes(fields.header));
+    out[TPER_AT..KEY_PER_IO_AT].copy_from_slice(&writing::tper_bytes(fields.tper));
+    out[KEY_PER_IO_AT..DISCOVERY_SIZE].copy_from_slice(&writing::key_per_io_bytes(
+        fields.key_per_io,
+    ));
     Ok(Granted::Done)
 }
 
