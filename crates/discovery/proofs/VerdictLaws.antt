@@ -1,6 +1,6 @@
 -- What was tested on the way is the reader's verdict.
 -- Assumes nothing.
-use Rattle.std.proofs.Common.{◌≡◌, ℕ, ◌+◌, ◌-◌, ◌≤◌, ◌<◌, true, false, List, length, take, ap, sym, ◌∙◌, arith, le-ltb, lt-ltb}
+use Rattle.std.proofs.Common.{◌≡◌, ℕ, ◌+◌, ◌-◌, ◌≤◌, ◌<◌, true, false, List, [], length, take, refl, ap, sym, ◌∙◌, arith, le-ltb, lt-ltb}
 use Rattle.std.specs.Prelude.{Option, Some, None, Result, Ok, Err, MatchOption, IsErrAnd}
 use Rattle.std.specs.Borrow.{Bor}
 use Rattle.std.specs.List.{slice_range}
@@ -21,17 +21,19 @@ use Rattle.rules.specs.Discovery.{tper_code, key_per_io_code}
 use Rattle.rules.specs.Discovering.{end_of, header_from, features, runs_past, first_of, tper_in, key_per_io_in, found_in, discovered}
 use Rattle.discovery.specs.Walking.{bytes_of, First}
 
--- a feature that is not there is absent
-pub tper_is : (f : Option (Bor (List ℕ))) (r : Option Tper) → MatchOption f (r ≡ None) (λ b. r ≡ tper_in b.now) → r ≡ tper_in (bytes_of f)
-unfolding tper_in
-tper_is None r is = is
-tper_is (Some b) r is = is
+-- a feature that is not there is read as no bytes are
+read_is : {T : Type 0} (read : List ℕ → Option T) (f : Option (Bor (List ℕ))) (r : Option T) → read [] ≡ None
+    → MatchOption f (r ≡ None) (λ b. r ≡ read b.now) → r ≡ read (bytes_of f)
+read_is read None r none is = is ∙ sym none
+read_is read (Some b) r none is = is
 
-pub key_per_io_is : (f : Option (Bor (List ℕ))) (r : Option KeyPerIo) → MatchOption f (r ≡ None) (λ b. r ≡ key_per_io_in b.now)
-    → r ≡ key_per_io_in (bytes_of f)
+no_tper : tper_in [] ≡ None
+unfolding tper_in
+no_tper = refl
+
+no_key_per_io : key_per_io_in [] ≡ None
 unfolding key_per_io_in
-key_per_io_is None r is = is
-key_per_io_is (Some b) r is = is
+no_key_per_io = refl
 
 pub is_error : {A : Type 0} (r : Result A Refusal) (e : Refusal) → IsErrAnd r (λ x. x ≡ e) → r ≡ Err e
 is_error (Ok x) e is = absurd is
@@ -80,9 +82,9 @@ module _ (d : List ℕ) (enough : header_size ≤ length d) {head : List ℕ} (f
           let ran : runs_past (features 0 (part header_size (end_of d - header_size) d)) ≡ false =
           ap (λ l. runs_past (features 0 l)) (sym features_are) ∙ found.0 in
           let t_is : t ≡ tper_in (first_of tper_code (features 0 (part header_size (end_of d - header_size) d))) =
-          tper_is o.tper t tper ∙ ap tper_in (sym found.1.0) ∙ ap (λ l. tper_in (first_of tper_code (features 0 l))) features_are in
+          read_is tper_in o.tper t no_tper tper ∙ ap tper_in (sym found.1.0) ∙ ap (λ l. tper_in (first_of tper_code (features 0 l))) features_are in
           let k_is : k ≡ key_per_io_in (first_of key_per_io_code (features 0 (part header_size (end_of d - header_size) d))) =
-          key_per_io_is o.key_per_io k key_per_io ∙ ap key_per_io_in (sym found.1.1)
+          read_is key_per_io_in o.key_per_io k no_key_per_io key_per_io ∙ ap key_per_io_in (sym found.1.1)
           ∙ ap (λ l. key_per_io_in (first_of key_per_io_code (features 0 l))) features_are in
           rw (
             le-ltb (length d) header_size enough,

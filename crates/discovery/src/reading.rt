@@ -1,7 +1,6 @@
 // The fields of a response by their bytes and bits.
 ghost use Rattle.std.specs.Prelude.{◌≡◌, ◌+◌, ◌≤◌, length};
 ghost use Rattle.cells.specs.Cells.{part};
-ghost use Rattle.rules.specs.Numbers.{tper_size, key_per_io_size};
 ghost use Rattle.rules.specs.Fields.{big_endian};
 ghost use Rattle.rules.specs.Discovering.{header_from, tper_from, key_per_io_from, tper_in, key_per_io_in};
 
@@ -35,8 +34,7 @@ pub(crate) fn header(d: &[u8; HEADER_SIZE]) -> DiscoveryHeader
     }
 }
 
-fn tper_from(f: &[u8]) -> Tper
-    requires { tper_size ≤ length f.now }
+fn tper_from(f: &[u8; TPER_SIZE]) -> Tper
     ensures { result ≡ tper_from f.now }
 {
     let flags = f[4];
@@ -51,8 +49,7 @@ fn tper_from(f: &[u8]) -> Tper
     }
 }
 
-fn key_per_io_from(f: &[u8]) -> KeyPerIo
-    requires { key_per_io_size ≤ length f.now }
+fn key_per_io_from(f: &[u8; KEY_PER_IO_SIZE]) -> KeyPerIo
     ensures { result ≡ key_per_io_from f.now }
 {
     let flags = f[16];
@@ -91,22 +88,14 @@ fn key_per_io_from(f: &[u8]) -> KeyPerIo
 }
 
 // A feature that is too short is told as absent.
-#[tactic(auto, unfolding(rules::specs::Discovering::tper_in))]
 pub(crate) fn tper(f: &[u8]) -> Option<Tper>
     ensures { result ≡ tper_in f.now }
 {
-    if f.len() < TPER_SIZE {
-        return None;
-    }
-    Some(tper_from(f))
+    f.first_chunk::<TPER_SIZE>().map(tper_from)
 }
 
-#[tactic(auto, unfolding(rules::specs::Discovering::key_per_io_in))]
 pub(crate) fn key_per_io(f: &[u8]) -> Option<KeyPerIo>
     ensures { result ≡ key_per_io_in f.now }
 {
-    if f.len() < KEY_PER_IO_SIZE {
-        return None;
-    }
-    Some(key_per_io_from(f))
+    f.first_chunk::<KEY_PER_IO_SIZE>().map(key_per_io_from)
 }
