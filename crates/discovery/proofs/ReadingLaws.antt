@@ -1,67 +1,33 @@
--- Big-endian numbers in two parts, the high bytes and the low ones behind them.
+-- Big-endian numbers by their bytes, and the fields of a feature, which lie in its front.
 -- Assumes nothing.
-use mathlib.Core.Path.{◌≡◌, refl, ap, ◌∙◌}
-use mathlib.Core.Bool.{Bool, true, false, cond}
-use mathlib.Core.List.{List, [], ◌∷◌, ◌++◌}
-use Prim.Native.Nat.{ℕ, suc, ◌+◌, ◌-◌, ◌*◌, ◌/◌, ◌%◌, ◌^◌, ◌≤◌}
-use native.Mathlib.Nat.{mul_assoc, pow-succ', div-one}
-use native.Mathlib.Numerals.{add-two}
+use Rattle.std.specs.Int.{w16, w32, from_be_bytes}
+use mathlib.Core.Path.{◌≡◌, ap, ◌∙◌}
+use mathlib.Core.List.{List, [], ◌∷◌}
+use Prim.Native.Nat.{ℕ, ◌+◌, ◌-◌, ◌<◌, ◌/◌, ◌%◌, ◌≤◌}
+use native.Mathlib.Nat.{div-one}
 use native.Mathlib.Omega.{arith}
-use lib.ListN.{length, get_or, take, drop, length-append}
-use lib.Dec.{eqb}
-use borrow.Author.Tests.{eqb-true}
+use lib.ListN.{length, get_or}
 use Rattle.cells.specs.Cells.{part}
-use Rattle.cells.proofs.CellsLaws.{part_join, part_byte}
-use Rattle.rules.specs.Numbers.{head_size}
+use Rattle.cells.proofs.CellsLaws.{part_next, part_four, part_byte, part_part}
+use Rattle.std.specs.Prelude.{Option, Some, None, MatchOption, IsSomeAnd, cond, ltb}
+use Rattle.std.specs.Array.{IsFirstChunk}
+use Rattle.std.specs.Borrow.{Bor}
+use Rattle.std.proofs.Common.{get_or-take, take, lit<, lit≤, lt-ltb, le-ltb}
+use Rattle.rules.specs.declared.Tper.{Tper}
+use Rattle.rules.specs.Numbers.{tper_size, key_per_io_size}
 use Rattle.rules.specs.Fields.{byte, big_endian, big}
 use Rattle.rules.specs.declared.KeyPerIo.{KeyPerIo}
-use Rattle.rules.specs.Discovering.{key_per_io_from}
-use Rattle.rules.specs.DiscoveryPromises.{feature_at}
-use Rattle.discovery.specs.Walking.{end_from, feature_from, LiesBefore}
+use Rattle.rules.specs.Discovering.{tper_from, key_per_io_from, tper_in, key_per_io_in}
 
-pub two_bytes : (a : ℕ) (f : List ℕ) → a + 2 ≤ length f → big_endian (part a 2 f) ≡ 256 * get_or f a 0 + get_or f (a + 1) 0
-unfolding big_endian
-two_bytes a f h =
-    ap big_endian (part_join a 1 1 f)
-    ∙ (rw (part_byte a f (omega arith), part_byte (a + 1) f (omega arith)) (omega arith))
+module _ (a : ℕ) (f : List ℕ) where
+  pub word_is : a + 2 ≤ length f → from_be_bytes w16 (get_or f a 0 ∷ get_or f (a + 1) 0 ∷ []) ≡ big_endian (part a 2 f)
+  unfolding big_endian
+  word_is h = rw (part_next a (a + 1) 1 f (omega arith) (omega arith), part_byte (a + 1) f (omega arith)) (omega arith)
 
-pow_two : (n : ℕ) → 256 ^ (n + 2) ≡ 256 ^ n * 65536
-pow_two n = rw (add-two, pow-succ' 256 (suc n), pow-succ' 256 n) (omega arith)
-
--- of two lists of which the second has two bytes
-join_two : (xs : List ℕ) (a b : ℕ) → big_endian (xs ++ (a ∷ b ∷ [])) ≡ 65536 * big_endian xs + big_endian (a ∷ b ∷ [])
-unfolding big_endian
-join_two [] a b = omega arith
-join_two (x ∷ xs) a b =
-    let n : length (xs ++ (a ∷ b ∷ [])) ≡ length xs + 2 = length-append xs (a ∷ b ∷ []) in
-    let p : 256 ^ (length xs + 2) ≡ 256 ^ length xs * 65536 = pow_two (length xs) in
-    rw (n, p, join_two xs a b, ← mul_assoc x (256 ^ length xs) 65536) (omega arith)
-
-pub two_halves : (a : ℕ) (f : List ℕ) → a + 4 ≤ length f
-    → big_endian (part a 4 f) ≡ 65536 * big_endian (part a 2 f) + big_endian (part (a + 2) 2 f)
-two_halves a f h =
-    let pair : part (a + 2) 2 f ≡ get_or f (a + 2) 0 ∷ get_or f (a + 2 + 1) 0 ∷ [] =
-    part_join (a + 2) 1 1 f ∙ (rw (part_byte (a + 2) f (omega arith), part_byte (a + 2 + 1) f (omega arith))) in
-    ap big_endian (part_join a 2 2 f)
-    ∙ (rw pair (join_two (part a 2 f) _ _))
-
--- the bytes that are lent of a feature that was found, or none
-module _ (p : ℕ) (d : List ℕ) where
-  pub lent_feature : take (end_from p d - p) (drop p d) ≡ feature_from p d
-  unfolding end_from feature_from part
-  lent_feature = by (eqb p 0) refl
-    where
-      by : (b : Bool) → eqb p 0 ≡ b → take (cond b 0 (p + head_size + byte (p + 3) d) - p) (drop p d) ≡ cond b [] (feature_at p d)
-      by true e = let n : 0 - p ≡ 0 = omega arith in rw n
-      by false e = let n : p + head_size + byte (p + 3) d - p ≡ head_size + byte (p + 3) d = omega arith in rw n
-
-  pub found_ends : LiesBefore (length d) d p → (p ≤ end_from p d) × (end_from p d ≤ length d)
-  unfolding end_from
-  found_ends l = by (eqb p 0) refl
-    where
-      by : (b : Bool) → eqb p 0 ≡ b → (p ≤ cond b 0 (p + head_size + byte (p + 3) d)) × (cond b 0 (p + head_size + byte (p + 3) d) ≤ length d)
-      by true e = (omega (arith, eqb-true p 0 e), omega arith)
-      by false e = (omega arith, l e)
+  pub dword_is : a + 4 ≤ length f
+      → from_be_bytes w32 (get_or f a 0 ∷ get_or f (a + 1) 0 ∷ get_or f (a + 2) 0 ∷ get_or f (a + 3) 0 ∷ []) ≡ big_endian (part a 4 f)
+  unfolding big_endian
+  dword_is h = rw (part_four a (a + 1) (a + 2) f (omega arith) (omega arith) (a + 3) (omega arith) (omega arith)) (omega arith)
 
 -- the numbers as they were read, and the bits
 module _ (f : List ℕ) {a b c d e g h i j : ℕ}
@@ -119,3 +85,60 @@ module _ (f : List ℕ) {a b c d e g h i j : ℕ}
         div-one (byte 25 f),
         div-one (byte 27 f),
       )
+
+-- ------------------------------------------------------------------------
+-- What is read of a front is read of the whole
+
+module _ (f : List ℕ) (n : ℕ) (enough : n ≤ length f) where
+  big_in_front : (a z : ℕ) → a + (z + 1 - a) ≤ n → big a z (take n f) ≡ big a z f
+  unfolding part
+  big_in_front a z h = let e : 0 + a ≡ a = omega arith in
+      ap big_endian (part_part 0 n a (z + 1 - a) f (omega arith) h ∙ ap (λ k. part k (z + 1 - a) f) e)
+
+tper_front : (f : List ℕ) → tper_size ≤ length f → tper_from (take tper_size f) ≡ tper_from f
+unfolding tper_from
+tper_front f h = rw (get_or-take tper_size f 2 0 (omega arith), get_or-take tper_size f 4 0 (omega arith))
+
+key_per_io_front : (f : List ℕ) → key_per_io_size ≤ length f → key_per_io_from (take key_per_io_size f) ≡ key_per_io_from f
+unfolding key_per_io_from
+key_per_io_front f h =
+    rw (
+      get_or-take key_per_io_size f 2 0 (lit< tt),
+      get_or-take key_per_io_size f 12 0 (lit< tt),
+      get_or-take key_per_io_size f 13 0 (lit< tt),
+      get_or-take key_per_io_size f 16 0 (lit< tt),
+      get_or-take key_per_io_size f 19 0 (lit< tt),
+      get_or-take key_per_io_size f 21 0 (lit< tt),
+      get_or-take key_per_io_size f 23 0 (lit< tt),
+      get_or-take key_per_io_size f 25 0 (lit< tt),
+      get_or-take key_per_io_size f 27 0 (lit< tt),
+      get_or-take key_per_io_size f 42 0 (lit< tt),
+      big_in_front f key_per_io_size h 4 5 (lit≤ tt),
+      big_in_front f key_per_io_size h 6 7 (lit≤ tt),
+      big_in_front f key_per_io_size h 8 9 (lit≤ tt),
+      big_in_front f key_per_io_size h 10 11 (lit≤ tt),
+      big_in_front f key_per_io_size h 14 15 (lit≤ tt),
+      big_in_front f key_per_io_size h 17 18 (lit≤ tt),
+      big_in_front f key_per_io_size h 32 35 (lit≤ tt),
+      big_in_front f key_per_io_size h 36 39 (lit≤ tt),
+      big_in_front f key_per_io_size h 40 41 (lit≤ tt),
+    )
+
+module _ {T : Type 0} (size : ℕ) (from : List ℕ → T) (front : (f : List ℕ) → size ≤ length f → from (take size f) ≡ from f) where
+  told : (f : List ℕ) (chunk : Option (Bor (List ℕ))) (r : Option T) → MatchOption chunk (length f < size) (λ y. IsFirstChunk f y.now size)
+      → MatchOption chunk (r ≡ None) (λ y. IsSomeAnd r (λ t. t ≡ from y.now)) → r ≡ cond (ltb (length f) size) None (Some (from f))
+  told f None r short is = rw (is, lt-ltb (length f) size short)
+  told f (Some y) None whole is = absurd is
+  told f (Some y) (Some t) whole is = rw (le-ltb (length f) size whole.enough, is, whole.same, front f whole.enough)
+
+pub tper_told : (f : List ℕ) (chunk : Option (Bor (List ℕ))) (r : Option Tper)
+    → MatchOption chunk (length f < tper_size) (λ y. IsFirstChunk f y.now tper_size)
+    → MatchOption chunk (r ≡ None) (λ y. IsSomeAnd r (λ t. t ≡ tper_from y.now)) → r ≡ tper_in f
+unfolding tper_in
+tper_told = told tper_size tper_from tper_front
+
+pub key_per_io_told : (f : List ℕ) (chunk : Option (Bor (List ℕ))) (r : Option KeyPerIo)
+    → MatchOption chunk (length f < key_per_io_size) (λ y. IsFirstChunk f y.now key_per_io_size)
+    → MatchOption chunk (r ≡ None) (λ y. IsSomeAnd r (λ k. k ≡ key_per_io_from y.now)) → r ≡ key_per_io_in f
+unfolding key_per_io_in
+key_per_io_told = told key_per_io_size key_per_io_from key_per_io_front

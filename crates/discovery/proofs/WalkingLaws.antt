@@ -1,114 +1,83 @@
--- The walk over the features: what is known at a place, one feature further, and
--- at the end.
+-- The walk over the features: one feature further, a code's first feature is that found before, or this one, or among those behind it.
 -- Assumes nothing.
-use mathlib.Core.Path.{◌≡◌, refl, ap, ◌∙◌}
-use mathlib.Core.Bool.{Bool, true, false, ◌&&◌, cond, true≢false}
-use mathlib.Core.List.{List}
-use Prim.Native.Nat.{ℕ, ◌+◌, ◌≤◌, ◌<◌}
-use native.Mathlib.Omega.{arith}
-use lib.ListN.{length}
-use lib.Dec.{eqb, ltb}
-use borrow.Author.Tests.{ltb-true, ltb-false, ne_eqb}
-use Rattle.cells.specs.Cells.{part}
-use Rattle.cells.proofs.CellsLaws.{part_part}
-use Rattle.rules.specs.Numbers.{header_size, head_size}
-use Rattle.rules.specs.Fields.{byte, big_endian}
-use Rattle.rules.specs.Discovering.{runs_past, code_of, first_of, features_from}
-use Rattle.rules.specs.DiscoveryPromises.{feature_at}
-use Rattle.rules.proofs.FeaturesLaws.{rest_end, rest_step, rest_length, rest_head}
-use Rattle.discovery.specs.Walking.{next_of, first_place, feature_from, LiesBefore, Found}
+use Rattle.std.proofs.Common.{◌≡◌, ℕ, ◌+◌, ◌<◌, ◌≤◌, true, false, cond, List, [], ◌∷◌, ◌++◌, length, refl, sym, ap, ◌∙◌, get_or-take, arith, eqb, eq-eqb, ne_eqb}
+use Rattle.discovery.specs.Walking.{First}
+use Rattle.std.specs.Prelude.{Option, Some, None, unwrap_or, option_map}
+use Rattle.std.specs.Option.{option_or}
+use Rattle.std.proofs.lemmas.List.{take-append-drop}
+use Rattle.std.specs.Borrow.{Bor}
+use Rattle.std.specs.Prelude.{MatchOption, MatchResult, ok_or}
+use Rattle.std.specs.List.{IsSplitAt}
+use Rattle.rules.specs.Answers.{07·16}
+use Rattle.rules.specs.Numbers.{head_size}
+use Rattle.rules.specs.Fields.{byte}
+use Rattle.rules.specs.Discovering.{features, runs_past, first_of, code_of}
+use Rattle.rules.proofs.FeaturesLaws.{whole_then, length_past}
 
--- of a code, on the way: the first feature of it is that at the place found, or is still to come
-pub record Seen (d : List ℕ) (e code p at : ℕ) : Type 0 where
-  pub is : first_of code (features_from d e header_size) ≡ cond (eqb p 0) (first_of code (features_from d e at)) (feature_at p d)
-  pub lies : LiesBefore e d p
+-- of a code, on the way: its first feature is that found, or is still to come
+pub record Seen (found : Option (Bor (List ℕ))) (code : ℕ) (d rest : List ℕ) : Type 0 where
+  pub is : first_of code (features 0 d) ≡ unwrap_or (option_map (λ b. b.now) found) (first_of code (features 0 rest))
 
--- and of both: the walk is behind the header, and what it passed was whole
-pub record Passed (d : List ℕ) (e at : ℕ) : Type 0 where
-  pub low : header_size ≤ at
-  pub reach : at ≤ e
-  pub runs : runs_past (features_from d e header_size) ≡ runs_past (features_from d e at)
+pub none_seen : (code : ℕ) (d : List ℕ) → Seen None code d d
+none_seen code d = record { is = refl }
 
--- ------------------------------------------------------------------------
--- At the start
+module _ (d f more : List ℕ) (whole : length f ≡ head_size + byte 3 f) where
+  pub runs_more : (rest : List ℕ) → rest ≡ f ++ more → runs_past (features 0 d) ≡ runs_past (features 0 rest)
+      → runs_past (features 0 d) ≡ runs_past (features 0 more)
+  unfolding runs_past
+  runs_more rest is runs = runs ∙ ap (λ l. runs_past (features 0 l)) is ∙ ap runs_past (whole_then f more whole)
 
-pub none_seen : (d : List ℕ) (e code : ℕ) → Seen d e code 0 header_size
-none_seen d e code = record { is = refl; lies = λ z. absurd (true≢false z) }
+  module _ (rest : List ℕ) (is : rest ≡ f ++ more) {code : ℕ} {found : Option (Bor (List ℕ))} (seen : Seen found code d rest) where
+    first_more : first_of code (features 0 rest) ≡ cond (eqb (code_of f) code) f (first_of code (features 0 more))
+    unfolding first_of
+    first_more = ap (λ l. first_of code (features 0 l)) is ∙ ap (first_of code) (whole_then f more whole)
 
--- ------------------------------------------------------------------------
--- One feature further
-
-module _ (d : List ℕ) (e at : ℕ) (inside : e ≤ length d) (before : at < e) where
-  -- where the feature runs past, the end of it is told as 0
-  pub next_past : next_of d at e ≡ 0 → runs_past (features_from d e at) ≡ true
-  unfolding next_of
-  next_past z = by (ltb e (at + head_size)) (ltb e (at + head_size + byte (at + 3) d)) refl refl z
-    where
-      by : (a b : Bool) → ltb e (at + head_size) ≡ a → ltb e (at + head_size + byte (at + 3) d) ≡ b
-          → cond a 0 (cond b 0 (at + head_size + byte (at + 3) d)) ≡ 0 → runs_past (features_from d e at) ≡ true
-      by true b p q z = rest_head d e at inside before (ltb-true e (at + head_size) p)
-      by false true p q z = rest_length d e at inside (ltb-false e (at + head_size) p) (ltb-true e (at + head_size + byte (at + 3) d) q)
-      by false false p q z = absurd (omega arith)
-
-  pub next_whole : (next : ℕ) → next ≡ next_of d at e → (next ≡ 0 → ⊥) → (next ≡ at + head_size + byte (at + 3) d) × (next ≤ e)
-  unfolding next_of
-  next_whole next is n = by (ltb e (at + head_size)) (ltb e (at + head_size + byte (at + 3) d)) refl refl is
-    where
-      by : (a b : Bool) → ltb e (at + head_size) ≡ a → ltb e (at + head_size + byte (at + 3) d) ≡ b
-          → next ≡ cond a 0 (cond b 0 (at + head_size + byte (at + 3) d)) → (next ≡ at + head_size + byte (at + 3) d) × (next ≤ e)
-      by true b p q z = absurd (n z)
-      by false true p q z = absurd (n z)
-      by false false p q z = (z, omega (arith, ltb-false e (at + head_size + byte (at + 3) d) q))
-
-  module _ (low : header_size ≤ at) (whole : at + head_size + byte (at + 3) d ≤ e) where
-    abbrev on : ℕ
-    on = at + head_size + byte (at + 3) d
-
-    -- the code of the feature, as it is read in the data
-    code_at : code_of (feature_at at d) ≡ big_endian (part at 2 d)
-    code_at =
-        let z : at + 0 ≡ at = omega arith in
-        ap big_endian (part_part at (head_size + byte (at + 3) d) 0 2 d (omega arith) (omega arith) ∙ ap (λ k. part k 2 d) z)
-
-    pub passed_more : Passed d e at → Passed d e on
-    unfolding runs_past
-    passed_more p = record {
-      low = omega arith;
-      reach = whole;
-      runs = p.runs ∙ ap runs_past (rest_step d e at inside (omega arith) whole);
+    pub seen_other : (code_of f ≡ code → ⊥) → Seen found code d more
+    seen_other other = record {
+      is = seen.is ∙ ap (unwrap_or (option_map (λ b. b.now) found)) (first_more ∙ (rw (ne_eqb (code_of f) code other)));
     }
 
-    pub seen_more : (code p : ℕ) → Seen d e code p at → Seen d e code (first_place p (eqb (big_endian (part at 2 d)) code) at) on
-    unfolding first_of
-    seen_more code p s = by (eqb p 0) (eqb (big_endian (part at 2 d)) code) refl refl s.is
+    pub seen_one : (b : Bor (List ℕ)) → b.now ≡ f → code_of f ≡ code → Seen (option_or found (Some b)) code d more
+    seen_one b at one = record {
+      is = seen.is ∙ ap (unwrap_or (option_map (λ b. b.now) found)) (first_more ∙ (rw (eq-eqb (code_of f) code one, ← at))) ∙ kept found b;
+    }
       where
-        step : first_of code (features_from d e at) ≡ cond (eqb (big_endian (part at 2 d)) code) (feature_at at d) (first_of code (features_from d e on))
-        step =
-            ap (first_of code) (rest_step d e at inside (omega arith) whole)
-            ∙ ap (λ c. cond (eqb c code) (feature_at at d) (first_of code (features_from d e on))) code_at
+        kept : (o : Option (Bor (List ℕ))) (b : Bor (List ℕ))
+            → unwrap_or (option_map (λ b. b.now) o) b.now
+            ≡ unwrap_or (option_map (λ b. b.now) (option_or o (Some b))) (first_of code (features 0 more))
+        kept None b = refl
+        kept (Some a) b = refl
 
-        by : (z is : Bool) → eqb p 0 ≡ z → eqb (big_endian (part at 2 d)) code ≡ is
-            → first_of code (features_from d e header_size) ≡ cond z (first_of code (features_from d e at)) (feature_at p d)
-            → Seen d e code (cond (is && z) at p) on
-        by true true q r h = record {
-          is = h ∙ step ∙ (rw (r, ne_eqb at 0 (λ y. omega arith)));
-          lies = λ _. whole;
-        }
-        by true false q r h = record { is = h ∙ step ∙ (rw (r, q)); lies = s.lies }
-        by false true q r h = record { is = h ∙ (rw q); lies = s.lies }
-        by false false q r h = record { is = h ∙ (rw q); lies = s.lies }
+-- none is left
+module _ (d rest : List ℕ) (none : length rest ≡ 0) where
+  pub runs_none : runs_past (features 0 d) ≡ runs_past (features 0 rest) → runs_past (features 0 d) ≡ false
+  unfolding features runs_past
+  runs_none runs = runs ∙ by rest none
+    where
+      by : (l : List ℕ) → length l ≡ 0 → runs_past (features 0 l) ≡ false
+      by [] e = refl
+      by (x ∷ l) e = absurd (omega arith)
+
+  pub seen_all : {code : ℕ} {found : Option (Bor (List ℕ))} → Seen found code d rest → First found code d
+  unfolding features first_of
+  seen_all {code} {found} seen = seen.is ∙ ap (unwrap_or (option_map (λ b. b.now) found)) (by rest none)
+    where
+      by : (l : List ℕ) → length l ≡ 0 → first_of code (features 0 l) ≡ []
+      by [] e = refl
+      by (x ∷ l) e = absurd (omega arith)
 
 -- ------------------------------------------------------------------------
--- At the end
+-- The first feature, split off
 
-module _ (d : List ℕ) (e at : ℕ) (inside : e ≤ length d) (is : at ≡ e) where
-  pub all_passed : Passed d e at → runs_past (features_from d e header_size) ≡ false
-  unfolding runs_past
-  all_passed p = p.runs ∙ ap runs_past (rest_end d e at inside is)
-
-  pub all_seen : (code p : ℕ) → Seen d e code p at → Found d e code p
-  unfolding first_of feature_from
-  all_seen code p s = record {
-    is = s.is ∙ ap (λ fs. cond (eqb p 0) (first_of code fs) (feature_at p d)) (rest_end d e at inside is);
-    lies = s.lies;
-  }
+module _ (d : List ℕ) (enough : head_size ≤ length d) where
+  pub split : (l : ℕ) → l ≡ byte 3 d → (parts : Option (Bor (List ℕ) × Bor (List ℕ)))
+      → MatchOption parts (length d < head_size + l) (λ p. IsSplitAt d (head_size + l) p.0.now p.1.now)
+      → MatchResult (ok_or parts 07·16)
+      (λ p. (d ≡ p.0.now ++ p.1.now) × (length p.0.now ≡ head_size + byte 3 p.0.now))
+      (λ r. (r ≡ 07·16) × (0 < length d → runs_past (features 0 d) ≡ true))
+  split l is None short = (refl, λ _. length_past d enough (omega arith))
+  split l is (Some p) at =
+      let third : byte 3 p.0.now ≡ byte 3 d = ap (byte 3) at.1 ∙ get_or-take (head_size + l) d 3 0 (omega arith) in (
+        rw (at.1, at.2) (sym (take-append-drop (head_size + l) d)),
+        omega (arith, at.3, third),
+      )

@@ -1,2 +1,1 @@
-pub mod Thirds
 pub mod Walking

@@ -1,58 +1,52 @@
 // The walk over the features behind the header.
-ghost use Rattle.std.specs.Prelude.{◌≡◌, ◌+◌, ◌≤◌, ◌<◌, length};
-ghost use Rattle.rules.specs.Numbers.{header_size};
-ghost use Rattle.discovery.specs.Walking.{next_of, first_place, WalkedTo};
+ghost use Rattle.std.specs.Prelude.{◌≡◌, ◌+◌, ◌<◌, ◌++◌, true, false, length, MatchResult};
+ghost use Rattle.rules.specs.Numbers.{head_size};
+ghost use Rattle.rules.specs.Answers.{07·16};
+ghost use Rattle.rules.specs.Fields.{byte};
+ghost use Rattle.rules.specs.Discovery.{tper_code, key_per_io_code};
+ghost use Rattle.rules.specs.Discovering.{features as features_of, runs_past};
+ghost use Rattle.discovery.specs.Walking.{First};
 
-use crate::Walked;
+use crate::Found;
 use crate::reading::word;
-use rules::{HEAD_SIZE, HEADER_SIZE};
+use rules::{HEAD_SIZE, Refusal};
 
-const TPER_CODE: u16 = 0x0001;
+pub(crate) const TPER_CODE: u16 = 0x0001;
 
-const KEY_PER_IO_CODE: u16 = 0x0305;
+pub(crate) const KEY_PER_IO_CODE: u16 = 0x0305;
 
-// Where the feature at `at` ends; 0 where its head or its length runs past the end.
-fn next_feature(d: &[u8], at: usize, end: usize) -> usize
-    requires { (at < end) × (end ≤ length d.now) }
-    ensures { result ≡ next_of d.now at end }
+// The first of some features, and those behind it; 07 16 where its head or its length runs past the end.
+fn split_first(features: &[u8]) -> Result<(&[u8], &[u8]), Refusal>
+    ensures { MatchResult result
+        (λ parts. (features.now ≡ parts.0.now ++ parts.1.now) × (length parts.0.now ≡ head_size + byte 3 parts.0.now))
+        (λ refusal. (refusal ≡ 07·16) × (0 < length features.now → runs_past (features_of 0 features.now) ≡ true)) }
 {
-    if end - at < HEAD_SIZE {
-        return 0;
-    }
-    let next = at + HEAD_SIZE + d[at + 3] as usize;
-    if next > end {
-        return 0;
-    }
-    next
+    let Some([_, _, _, length]) = features.first_chunk::<HEAD_SIZE>() else {
+        return Err(Refusal::NotAResponse);
+    };
+    features
+        .split_at_checked(HEAD_SIZE + *length as usize)
+        .ok_or(Refusal::NotAResponse)
 }
 
-// The place of the first feature of a code: one that was found before stays.
-fn first_place(found: usize, is: bool, at: usize) -> usize
-    ensures { result ≡ first_place found is at }
+// The first feature of each of our two codes. Each feature takes 4 bytes or more, so that the walk ends.
+pub(crate) fn find(features: &[u8]) -> Result<Found<'_>, Refusal>
+    ensures { MatchResult result
+        (λ found. (runs_past (features_of 0 features.now) ≡ false)
+        × (First found.tper tper_code features.now × First found.key_per_io key_per_io_code features.now))
+        (λ refusal. (refusal ≡ 07·16) × (runs_past (features_of 0 features.now) ≡ true)) }
 {
-    if is && found == 0 {
-        return at;
-    }
-    found
-}
-
-// From the header's end on, feature by feature. Each takes 4 bytes or more, so that the walk ends.
-pub(crate) fn walk(d: &[u8], end: usize) -> Walked
-    requires { (header_size ≤ end) × (end ≤ length d.now) }
-    ensures { WalkedTo d.now end result }
-{
-    let mut tper = 0;
-    let mut key_per_io = 0;
-    let mut at = HEADER_SIZE;
-    while at < end {
-        let next = next_feature(d, at, end);
-        if next == 0 {
-            return Walked::RunsPast;
+    let mut tper = None;
+    let mut key_per_io = None;
+    let mut rest = features;
+    while !rest.is_empty() {
+        let (feature, behind) = split_first(rest)?;
+        match word(feature, 0) {
+            TPER_CODE => tper = tper.or(Some(feature)),
+            KEY_PER_IO_CODE => key_per_io = key_per_io.or(Some(feature)),
+            _ => {}
         }
-        let code = word(d, at);
-        tper = first_place(tper, code == TPER_CODE, at);
-        key_per_io = first_place(key_per_io, code == KEY_PER_IO_CODE, at);
-        at = next;
+        rest = behind;
     }
-    Walked::Places(tper, key_per_io)
+    Ok(Found { tper, key_per_io })
 }

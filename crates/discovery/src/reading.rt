@@ -1,14 +1,11 @@
 // The fields of a response by their bytes and bits.
 ghost use Rattle.std.specs.Prelude.{◌≡◌, ◌+◌, ◌≤◌, length};
 ghost use Rattle.cells.specs.Cells.{part};
-ghost use Rattle.rules.specs.Numbers.{header_size, tper_size, key_per_io_size};
 ghost use Rattle.rules.specs.Fields.{big_endian};
 ghost use Rattle.rules.specs.Discovering.{header_from, tper_from, key_per_io_from, tper_in, key_per_io_in};
-ghost use Rattle.discovery.specs.Walking.{end_from, feature_from, LiesBefore};
 
 use rules::{
-    Discovered, DiscoveryHeader, HEAD_SIZE, HEADER_SIZE, KEY_PER_IO_SIZE, KeyPerIo, TPER_SIZE,
-    Tper, VENDOR_SPECIFIC_SIZE,
+    DiscoveryHeader, HEADER_SIZE, KEY_PER_IO_SIZE, KeyPerIo, TPER_SIZE, Tper, VENDOR_SPECIFIC_SIZE,
 };
 
 // Two and four bytes from at, the highest first.
@@ -16,35 +13,28 @@ pub(crate) fn word(d: &[u8], at: usize) -> u16
     requires { at + 2 ≤ length d.now }
     ensures { result ≡ big_endian (part at 2 d.now) }
 {
-    let high = d[at] as u16;
-    let low = d[at + 1] as u16;
-    256 * high + low
+    u16::from_be_bytes([d[at], d[at + 1]])
 }
 
 pub(crate) fn dword(d: &[u8], at: usize) -> u32
     requires { at + 4 ≤ length d.now }
     ensures { result ≡ big_endian (part at 4 d.now) }
 {
-    let high = word(d, at) as u32;
-    let low = word(d, at + 2) as u32;
-    65536 * high + low
+    u32::from_be_bytes([d[at], d[at + 1], d[at + 2], d[at + 3]])
 }
 
-fn header_from(d: &[u8]) -> DiscoveryHeader
-    requires { header_size ≤ length d.now }
+pub(crate) fn header(d: &[u8; HEADER_SIZE]) -> DiscoveryHeader
     ensures { result ≡ header_from d.now }
 {
-    let data_structure_revision = dword(d, 4);
     let mut vendor_specific = [0u8; VENDOR_SPECIFIC_SIZE];
-    cells::copy(&mut vendor_specific, &d[16..HEADER_SIZE]);
+    vendor_specific.copy_from_slice(&d[16..]);
     DiscoveryHeader {
-        data_structure_revision,
+        data_structure_revision: dword(d, 4),
         vendor_specific,
     }
 }
 
-fn tper_from(f: &[u8]) -> Tper
-    requires { tper_size ≤ length f.now }
+fn tper_from(f: &[u8; TPER_SIZE]) -> Tper
     ensures { result ≡ tper_from f.now }
 {
     let flags = f[4];
@@ -59,8 +49,7 @@ fn tper_from(f: &[u8]) -> Tper
     }
 }
 
-fn key_per_io_from(f: &[u8]) -> KeyPerIo
-    requires { key_per_io_size ≤ length f.now }
+fn key_per_io_from(f: &[u8; KEY_PER_IO_SIZE]) -> KeyPerIo
     ensures { result ≡ key_per_io_from f.now }
 {
     let flags = f[16];
@@ -98,54 +87,15 @@ fn key_per_io_from(f: &[u8]) -> KeyPerIo
     }
 }
 
-// A feature that is missing or too short is absent.
-fn tper_in(f: &[u8]) -> Option<Tper>
+// A feature that is too short is told as absent.
+pub(crate) fn tper(f: &[u8]) -> Option<Tper>
     ensures { result ≡ tper_in f.now }
 {
-    if f.len() < TPER_SIZE {
-        return None;
-    }
-    Some(tper_from(f))
+    f.first_chunk::<TPER_SIZE>().map(tper_from)
 }
 
-fn key_per_io_in(f: &[u8]) -> Option<KeyPerIo>
+pub(crate) fn key_per_io(f: &[u8]) -> Option<KeyPerIo>
     ensures { result ≡ key_per_io_in f.now }
 {
-    if f.len() < KEY_PER_IO_SIZE {
-        return None;
-    }
-    Some(key_per_io_from(f))
-}
-
-// Where the feature at a place that was found ends; 0 for none, whose place is 0 too.
-fn feature_end(d: &[u8], at: usize) -> usize
-    requires { LiesBefore (length d.now) d.now at }
-    ensures { result ≡ end_from at d.now }
-{
-    if at == 0 {
-        return 0;
-    }
-    at + HEAD_SIZE + d[at + 3] as usize
-}
-
-// The header's fields, and the two features at their places.
-pub(crate) fn found(d: &[u8], t: usize, k: usize) -> Discovered
-    requires { (header_size ≤ length d.now)
-        × (LiesBefore (length d.now) d.now t × LiesBefore (length d.now) d.now k) }
-    ensures { result ≡ record {
-      header = header_from d.now;
-      tper = tper_in (feature_from t d.now);
-      key_per_io = key_per_io_in (feature_from k d.now);
-    } }
-{
-    let header = header_from(d);
-    let tper_end = feature_end(d, t);
-    let tper = tper_in(&d[t..tper_end]);
-    let key_per_io_end = feature_end(d, k);
-    let key_per_io = key_per_io_in(&d[k..key_per_io_end]);
-    Discovered {
-        header,
-        tper,
-        key_per_io,
-    }
+    f.first_chunk::<KEY_PER_IO_SIZE>().map(key_per_io_from)
 }

@@ -1,10 +1,8 @@
--- `dword` meets its contract: two halves as one number.
+-- `dword` meets its contract: four bytes as one number.
 -- Assumes nothing.
-use native.Mathlib.Omega.{arith}
-use mathlib.Core.Path.{sym}
-use Rattle.discovery.proofs.ReadingLaws.{two_halves}
+use Rattle.std.proofs.Common.{◌∙◌}
+use Rattle.discovery.proofs.ReadingLaws.{dword_is}
 use Rattle.discovery.proofs.reading.dword.Goals as goal
 
 pub returns : goal.returns
-returns c =
-    rw (two_halves c.args.at c.args.d.now (omega arith), sym c.word-high.ensures, sym c.word-low.ensures)
+returns c = c.from_be_bytes.ensures ∙ dword_is c.args.at c.args.d.now c.requires

@@ -1,9 +1,8 @@
 -- `word` meets its contract: two bytes as one number.
 -- Assumes nothing.
-use native.Mathlib.Omega.{arith}
-use Rattle.discovery.proofs.ReadingLaws.{two_bytes}
+use Rattle.std.proofs.Common.{◌∙◌}
+use Rattle.discovery.proofs.ReadingLaws.{word_is}
 use Rattle.discovery.proofs.reading.word.Goals as goal
 
 pub returns : goal.returns
-returns c =
-    rw (two_bytes c.args.at c.args.d.now (omega arith))
+returns c = c.from_be_bytes.ensures ∙ word_is c.args.at c.args.d.now c.requires

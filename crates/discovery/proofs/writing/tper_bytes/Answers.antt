@@ -7,4 +7,4 @@ use Rattle.discovery.proofs.writing.tper_bytes.Goals as goal
 
 pub returns : goal.returns
 unfolding tper_bytes zeros
-returns c = simp mul-one
+returns c = rw (c.copy_from_slice.ensures.after, c.to_be_bytes.ensures) (simp mul-one)
