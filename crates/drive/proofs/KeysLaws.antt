@@ -28,7 +28,7 @@ use Rattle.rules.specs.declared.Refusal.{Refusal}
 use Rattle.rules.specs.Checks.{Check, ◌when◌, judged}
 use Rattle.rules.specs.Answers.{07·0D, 07·0E}
 use Rattle.drive.specs.Acting as acting
-use Rattle.drive.specs.Acting.{state, outcome, Zeroed}
+use Rattle.drive.specs.Acting.{state, after, Zeroed}
 use Rattle.drive.proofs.ActingLaws.{uid_only}
 
 -- a namespace is managed by its count
@@ -107,23 +107,23 @@ zeroed_by_length k keys marks e =
 
 pub started : (kek keys marks : List ℕ) (locks : BootLocks) (cache : List ℕ) (a : Answer) (store : List ℕ) → locks ≡ both_locked
     → cache ≡ emptied_cache kek keys → ◌≡◌ {A = Zeroed} (record { answer = a; marks = store }) (acting.zeroed keys marks)
-    → outcome a (record { counts = 0 ∷ 0 ∷ 0 ∷ 0 ∷ []; locks = locks }) cache store ≡ start kek keys marks
+    → after a (record { counts = 0 ∷ 0 ∷ 0 ∷ 0 ∷ []; locks = locks }) cache store ≡ start kek keys marks
 unfolding start fresh_registers acting.zeroed
 started kek keys marks locks cache a store l k z =
     let registers : record { counts = 0 ∷ 0 ∷ 0 ∷ 0 ∷ []; locks = locks } ≡ fresh_registers = (λ i. record { counts = no_counts i; locks = l i }) in
-    (λ i. outcome a (registers i) (k i) store)
-    ∙ ap (λ (w : Zeroed). outcome w.answer fresh_registers (emptied_cache kek keys) w.marks) z
+    (λ i. after a (registers i) (k i) store)
+    ∙ ap (λ (w : Zeroed). after w.answer fresh_registers (emptied_cache kek keys) w.marks) z
     ∙ by (wrong_store marks) (wrong_cache keys) refl
   where
     checks : Bool → Bool → List (Check Refusal)
     checks s c = 07·0D when s ∷ 07·0E when c ∷ []
 
     left : Zeroed → Outcome
-    left w = outcome w.answer fresh_registers (emptied_cache kek keys) w.marks
+    left w = after w.answer fresh_registers (emptied_cache kek keys) w.marks
 
     by : (s c : Bool) → wrong_cache keys ≡ c
         → left (judged (checks s c) (λ r. record { answer = Err r; marks = marks }) (record { answer = Ok Done; marks = zeros store_size }))
         ≡ judged (checks s c) (λ r. record { answer = Err r; state = fresh_with (emptied_cache kek keys) marks }) (record { answer = Ok Done; state = fresh kek })
     by true c e = refl
     by false true e = refl
-    by false false e = ap (λ b. outcome (Ok Done) fresh_registers (cond b keys (fresh_cache kek)) (zeros store_size)) e
+    by false false e = ap (λ b. after (Ok Done) fresh_registers (cond b keys (fresh_cache kek)) (zeros store_size)) e

@@ -15,7 +15,7 @@ use Rattle.rules.proofs.Promised.{sound_kept}
 use Rattle.rules.proofs.SayableLaws.{answer_fits}
 use Rattle.digits.specs.Digits.{Wrote, wrote}
 use Rattle.rules.specs.Answer.{Answer}
-use Rattle.drive.specs.Acting.{state, outcome, Ready}
+use Rattle.drive.specs.Acting.{state, after, Ready}
 use Rattle.drive.proofs.LinesLaws.{few_lines}
 
 -- ------------------------------------------------------------------------
@@ -176,7 +176,7 @@ module _ (s : State) (line out last : List ℕ) (o : Outcome) (e : o ≡ step s 
 
 -- a step keeps a state ready for the next
 pub ready_next : (d : Registers) (keys marks line : List ℕ) (a : Answer) (d' : Registers) (keys' marks' : List ℕ) → Ready d keys marks
-    → outcome a d' keys' marks' ≡ step (state d keys marks) line → Ready d' keys' marks'
+    → after a d' keys' marks' ≡ step (state d keys marks) line → Ready d' keys' marks'
 ready_next d keys marks line a d' keys' marks' ready e =
     let k = sound_kept (state d keys marks) line ready.sized ready.sound in
     let same : (step (state d keys marks) line).state ≡ state d' keys' marks' = ap (λ (o : Outcome). o.state) (sym e) in

@@ -22,15 +22,20 @@ use Rattle.rules.specs.Order.{frame_rule, slot_checks, out_of_range, key_checks,
 use Rattle.rules.specs.Start.{start_checks}
 use Rattle.rules.specs.Call.{admission}
 use Rattle.frames.specs.Reading.{Meant, frame, refusal}
+use Rattle.drive.specs.declared.Answered.{Answered}
 use Rattle.drive.specs.declared.Access.{Access}
 use Rattle.drive.specs.declared.Access.TheVariants.{Write, Read}
 
 abbrev pub state : Registers → List ℕ → List ℕ → State
 state registers keys marks = record { registers = registers; keys = keys; marks = marks }
 
--- an answer, and what it leaves
-abbrev pub outcome : Answer → Registers → List ℕ → List ℕ → Outcome
-outcome answer registers keys marks = record { answer = answer; state = state registers keys marks }
+-- an answer, and what is after it
+abbrev pub after : Answer → Registers → List ℕ → List ℕ → Outcome
+after answer registers keys marks = record { answer = answer; state = state registers keys marks }
+
+-- an answer with the registers, and the two stores
+abbrev pub outcome : Answered → List ℕ → List ℕ → Outcome
+outcome r keys marks = after r.answer r.registers keys marks
 
 -- what a step may take for granted
 pub record Ready (registers : Registers) (keys marks : List ℕ) : Type 0 where

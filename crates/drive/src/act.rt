@@ -7,7 +7,7 @@ ghost use Rattle.rules.specs.Slots.{FitKey};
 ghost use Rattle.rules.specs.Frames.{contents_at};
 ghost use Rattle.rules.specs.Order.{obeys, step, load as loadRule, replace as replaceRule};
 ghost use Rattle.frames.specs.Reading.{meant, Lies, read_from};
-ghost use Rattle.drive.specs.Acting.{state, outcome, Ready, Sound, acted, replace_most};
+ghost use Rattle.drive.specs.Acting.{state, after, Ready, Sound, acted, replace_most};
 
 use crate::contents::Contents;
 use crate::scratch::Scratch;
@@ -29,7 +29,7 @@ fn load(
     l: usize,
 ) -> Answer
     requires { Sound registers.now keys.old × (FitKey (contents_at key_size 5 l f.now) × (5 + l + key_size ≤ length f.now)) }
-    ensures { (marks : List ℕ) → outcome result registers.now keys.new marks
+    ensures { (marks : List ℕ) → after result registers.now keys.new marks
         ≡ obeys (state registers.now keys.old marks)
         (λ v. loadRule v ns tag (contents_at key_size 5 l f.now)) }
 {
@@ -53,7 +53,7 @@ fn replace(
     l: usize,
 ) -> Answer
     requires { Sound registers.now keys.old × (FitKey (contents_at key_size (6 + o) l f.now) × (6 + o + l + key_size ≤ length f.now)) }
-    ensures { (marks : List ℕ) → outcome result registers.now keys.new marks
+    ensures { (marks : List ℕ) → after result registers.now keys.new marks
         ≡ obeys (state registers.now keys.old marks)
         (λ v. replaceRule v ns tag (part 5 o f.now) (contents_at key_size (6 + o) l f.now)) }
 {
@@ -78,7 +78,7 @@ fn act(
     words: &mut [u32; SCHEDULE],
 ) -> Answer
     requires { Ready registers.old keys.old marks.old × Lies f.old read }
-    ensures { (outcome result registers.new keys.new marks.new
+    ensures { (after result registers.new keys.new marks.new
         ≡ acted (state registers.old keys.old marks.old) (meant f.old read))
         × (drop replace_most f.new ≡ drop replace_most f.old)
         × (words.old ≡ zeros schedule_words → words.new ≡ zeros schedule_words) }
@@ -127,7 +127,7 @@ pub(crate) fn on_line(
     scratch: &mut Scratch,
 ) -> Answer
     requires { Ready registers.old keys.old marks.old }
-    ensures { (outcome result registers.new keys.new marks.new
+    ensures { (after result registers.new keys.new marks.new
         ≡ step (state registers.old keys.old marks.old) line.now)
         × (scratch.new.brought ≡ zeros (uid_most + key_size)) }
 {

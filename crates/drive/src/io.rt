@@ -6,7 +6,7 @@ ghost use Rattle.rules.specs.Numbers.{blocks_each, slot_width, slot_places, cach
 ghost use Rattle.rules.specs.Marks.{block_of};
 ghost use Rattle.rules.specs.Order.{obeys, command as commandRule, out_of_range};
 ghost use Rattle.marks.specs.Store.{some_differs, marked};
-ghost use Rattle.drive.specs.Acting.{state, outcome, Ready, access_of, keyed, reached, Known, Sound};
+ghost use Rattle.drive.specs.Acting.{state, after, Ready, access_of, keyed, reached, Known, Sound};
 
 use crate::Access;
 use crate::answers::{count, no_namespace, place};
@@ -102,7 +102,7 @@ fn at_place(
     access: Access,
 ) -> Answer
     requires { Ready registers.now keys.now marks.old × Known c access × (Ok (Some place) ≡ reached (state registers.now keys.now []) c) }
-    ensures { outcome result registers.now keys.now marks.new
+    ensures { after result registers.now keys.now marks.new
         ≡ obeys (state registers.now keys.now marks.old) (λ v. commandRule v c) }
 {
     let block = block_of(c);
@@ -121,7 +121,7 @@ fn at_place(
 // One I/O command. It leaves the keys as they are.
 pub(crate) fn command(registers: &Registers, keys: &[u8], marks: &mut [u8], c: Command) -> Answer
     requires { Ready registers.now keys.now marks.old }
-    ensures { outcome result registers.now keys.now marks.new
+    ensures { after result registers.now keys.now marks.new
         ≡ obeys (state registers.now keys.now marks.old) (λ v. commandRule v c) }
 {
     let access = access(c.opcode)?;

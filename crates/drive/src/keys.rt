@@ -6,7 +6,7 @@ ghost use Rattle.rules.specs.State.{total as total_of};
 ghost use Rattle.rules.specs.Order.{obeys, manage as manageRule, release as releaseRule, load as loadRule, replace as replaceRule, clear_one as clearOneRule};
 ghost use Rattle.rules.specs.Order.{clear_all as clearAllRule};
 ghost use Rattle.drive.specs.Contents.{contents};
-ghost use Rattle.drive.specs.Acting.{state, outcome, Ready, Sound, put_at, load_at, replace_at, clear_at};
+ghost use Rattle.drive.specs.Acting.{state, after, Ready, Sound, put_at, load_at, replace_at, clear_at};
 
 use crate::answers::{count, locate, managed, no_namespace, set_count};
 use crate::contents::Contents;
@@ -25,7 +25,7 @@ fn total(counts: &[u8; NAMESPACES]) -> usize
 }
 
 pub(crate) fn manage(registers: &mut Registers, ns: Namespace, tags: u8) -> Answer
-    ensures { (keys marks : List ℕ) → outcome result registers.new keys marks
+    ensures { (keys marks : List ℕ) → after result registers.new keys marks
         ≡ obeys (state registers.old keys marks) (λ v. manageRule v ns tags) }
 {
     if no_namespace(ns) {
@@ -52,7 +52,7 @@ pub(crate) fn release(
     ns: Namespace,
 ) -> Answer
     requires { Ready registers.old keys.old marks.old }
-    ensures { outcome result registers.new keys.new marks.new
+    ensures { after result registers.new keys.new marks.new
         ≡ obeys (state registers.old keys.old marks.old) (λ v. releaseRule v ns) }
 {
     let tags = managed(registers, ns)?;
@@ -64,7 +64,7 @@ pub(crate) fn release(
 
 pub(crate) fn clear_all(registers: &Registers, keys: &mut [u8], ns: Namespace) -> Answer
     requires { Sound registers.now keys.old }
-    ensures { (marks : List ℕ) → outcome result registers.now keys.new marks
+    ensures { (marks : List ℕ) → after result registers.now keys.new marks
         ≡ obeys (state registers.now keys.old marks) (λ v. clearAllRule v ns) }
 {
     let tags = managed(registers, ns)?;
@@ -83,7 +83,7 @@ fn other_key(registers: &Registers, keys: &[u8], x: Contents) -> bool
 // The last check of load and replace, and what both then do.
 fn put(registers: &Registers, keys: &mut [u8], place: usize, x: Contents) -> Answer
     requires { (place < slot_places) × Sound registers.now keys.old }
-    ensures { (marks : List ℕ) → outcome result registers.now keys.new marks
+    ensures { (marks : List ℕ) → after result registers.now keys.new marks
         ≡ put_at (state registers.now keys.old marks) place (contents x.entry.uid.now x.entry.key.now) }
 {
     if other_key(registers, keys, x) {
@@ -95,7 +95,7 @@ fn put(registers: &Registers, keys: &mut [u8], place: usize, x: Contents) -> Ans
 
 fn load_at(registers: &Registers, keys: &mut [u8], place: usize, x: Contents) -> Answer
     requires { (place < slot_places) × Sound registers.now keys.old }
-    ensures { (marks : List ℕ) → outcome result registers.now keys.new marks
+    ensures { (marks : List ℕ) → after result registers.now keys.new marks
         ≡ load_at (state registers.now keys.old marks) place (contents x.entry.uid.now x.entry.key.now) }
 {
     if slots::loaded(keys, place) {
@@ -112,7 +112,7 @@ pub(crate) fn load(
     x: Contents,
 ) -> Answer
     requires { Sound registers.now keys.old }
-    ensures { (marks : List ℕ) → outcome result registers.now keys.new marks
+    ensures { (marks : List ℕ) → after result registers.now keys.new marks
         ≡ obeys (state registers.now keys.old marks)
         (λ v. loadRule v ns tag (contents x.entry.uid.now x.entry.key.now)) }
 {
@@ -128,7 +128,7 @@ fn replace_at(
     x: Contents,
 ) -> Answer
     requires { (place < slot_places) × Sound registers.now keys.old }
-    ensures { (marks : List ℕ) → outcome result registers.now keys.new marks
+    ensures { (marks : List ℕ) → after result registers.now keys.new marks
         ≡ replace_at (state registers.now keys.old marks) place old.now (contents x.entry.uid.now x.entry.key.now) }
 {
     if !slots::loaded(keys, place) {
@@ -149,7 +149,7 @@ pub(crate) fn replace(
     x: Contents,
 ) -> Answer
     requires { Sound registers.now keys.old }
-    ensures { (marks : List ℕ) → outcome result registers.now keys.new marks
+    ensures { (marks : List ℕ) → after result registers.now keys.new marks
         ≡ obeys (state registers.now keys.old marks)
         (λ v. replaceRule v ns tag old.now (contents x.entry.uid.now x.entry.key.now)) }
 {
@@ -159,7 +159,7 @@ pub(crate) fn replace(
 
 fn clear_at(registers: &Registers, keys: &mut [u8], place: usize) -> Answer
     requires { (place < slot_places) × (length keys.old ≡ cache_size) }
-    ensures { (marks : List ℕ) → outcome result registers.now keys.new marks ≡ clear_at (state registers.now keys.old marks) place }
+    ensures { (marks : List ℕ) → after result registers.now keys.new marks ≡ clear_at (state registers.now keys.old marks) place }
 {
     if !slots::loaded(keys, place) {
         return Err(Refusal::SlotEmpty);
@@ -170,7 +170,7 @@ fn clear_at(registers: &Registers, keys: &mut [u8], place: usize) -> Answer
 
 pub(crate) fn clear_one(registers: &Registers, keys: &mut [u8], ns: Namespace, tag: Tag) -> Answer
     requires { Sound registers.now keys.old }
-    ensures { (marks : List ℕ) → outcome result registers.now keys.new marks
+    ensures { (marks : List ℕ) → after result registers.now keys.new marks
         ≡ obeys (state registers.now keys.old marks) (λ v. clearOneRule v ns tag) }
 {
     let place = locate(registers, ns, tag)?;

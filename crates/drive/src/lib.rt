@@ -83,7 +83,7 @@ fn zeroed(keys: &[u8], marks: &mut [u8]) -> Answer
 
 // Starts a fresh drive: a cache of the right length emptied, and then a store of the right length zeroed. What has another length stays.
 pub fn start(kek: &[u8; KEK_SIZE], keys: &mut [u8], marks: &mut [u8]) -> Answered
-    ensures { outcome result.answer result.registers keys.new marks.new ≡ started kek.now keys.old marks.old }
+    ensures { outcome result keys.new marks.new ≡ started kek.now keys.old marks.old }
 {
     emptied(kek, keys);
     let registers = Registers {

@@ -10,7 +10,7 @@ ghost use Rattle.rules.specs.Slots.{FitKey, FitWrapped};
 ghost use Rattle.rules.specs.Frames.{contents_at};
 ghost use Rattle.rules.specs.Order.{obeys, slot_checks, load as loadRule, load_wrapped as wrapped_rule};
 ghost use Rattle.wrap.specs.Wrapping.{told};
-ghost use Rattle.drive.specs.Acting.{state, outcome, Sound, replace_most, opened_at};
+ghost use Rattle.drive.specs.Acting.{state, after, Sound, replace_most, opened_at};
 
 use crate::answers::locate;
 use crate::contents::Contents;
@@ -42,7 +42,7 @@ fn clear(
     l: usize,
 ) -> Answer
     requires { Sound registers.now keys.old × (FitKey (opened_at l f.now) × (l ≤ uid_most) × (5 + l + wrapped_size ≤ length f.now)) }
-    ensures { (marks : List ℕ) → outcome result registers.now keys.new marks
+    ensures { (marks : List ℕ) → after result registers.now keys.new marks
         ≡ obeys (state registers.now keys.old marks)
         (λ v. loadRule v ns tag (opened_at l f.now)) }
 {
@@ -68,7 +68,7 @@ fn opened(
 ) -> Answer
     requires { Sound registers.now keys.old × (FitWrapped (contents_at wrapped_size 5 l f.old) × (5 + l + wrapped_size ≤ length f.old))
         × AllPass (slot_checks (view_of (state registers.now [] [])) ns tag) }
-    ensures { ((marks : List ℕ) → outcome result registers.now keys.new marks
+    ensures { ((marks : List ℕ) → after result registers.now keys.new marks
         ≡ obeys (state registers.now keys.old marks)
         (λ v. wrapped_rule v ns tag (contents_at wrapped_size 5 l f.old)))
         × (drop replace_most f.new ≡ drop replace_most f.old)
@@ -91,7 +91,7 @@ pub(crate) fn load(
     words: &mut [u32; SCHEDULE],
 ) -> Answer
     requires { Sound registers.now keys.old × (FitWrapped (contents_at wrapped_size 5 l f.old) × (5 + l + wrapped_size ≤ length f.old)) }
-    ensures { ((marks : List ℕ) → outcome result registers.now keys.new marks
+    ensures { ((marks : List ℕ) → after result registers.now keys.new marks
         ≡ obeys (state registers.now keys.old marks)
         (λ v. wrapped_rule v ns tag (contents_at wrapped_size 5 l f.old)))
         × (drop replace_most f.new ≡ drop replace_most f.old)

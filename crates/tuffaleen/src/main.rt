@@ -3,7 +3,7 @@
 
 ghost use Rattle.std.specs.Prelude.{◌≤◌, length};
 
-use rules::{ANSWER_MOST, Answer, CACHE_SIZE, PROGRAM_KEK, Refusal, STORE_SIZE};
+use rules::{ANSWER_MOST, CACHE_SIZE, PROGRAM_KEK, Refusal, STORE_SIZE};
 use std::io::{Read, Write};
 
 // The longest input, and room for a short answer to as many lines as it could have. Discovery takes more; a session that needs more than
@@ -39,7 +39,7 @@ fn read_text(rt: &HostRuntime, text: &mut [u8]) -> usize
 // The line of the number that refused the whole session.
 fn print_refusal(rt: &HostRuntime, refusal: Refusal) {
     let mut out = [0u8; ANSWER_MOST];
-    let bytes = digits::write_answer(Answer::Refused(refusal), &mut out);
+    let bytes = digits::write_answer(Err(refusal), &mut out);
     print(rt, &out[..bytes]);
 }
 
@@ -53,15 +53,10 @@ fn main(rt: HostRuntime) {
     let mut keys = [0u8; CACHE_SIZE];
     let mut marks = [0u8; STORE_SIZE];
     let mut out = [0u8; OUTPUT];
-    let kek = PROGRAM_KEK;
-    let started = drive::start(&kek, &mut keys, &mut marks);
-    let fresh = started.registers;
+    let fresh = drive::start(&PROGRAM_KEK, &mut keys, &mut marks).registers;
     let ran = drive::answer_session(fresh, &mut keys, &mut marks, &text[..n], &mut out);
-    let result = ran.result;
-    if let Answer::Refused(refusal) = result {
-        print_refusal(&rt, refusal);
-        return;
+    match ran.result {
+        Ok(_) => print(&rt, &out[..ran.bytes]),
+        Err(refusal) => print_refusal(&rt, refusal),
     }
-    let bytes = ran.bytes;
-    print(&rt, &out[..bytes]);
 }

@@ -11,7 +11,7 @@ use Rattle.rules.specs.Locks.{partition, same_lock}
 use Rattle.rules.specs.Order.{boot_write}
 use Rattle.rules.proofs.ChecksLaws.{judged_map}
 use Rattle.locks.specs.Deciding.{boot_written}
-use Rattle.drive.specs.Acting.{outcome}
+use Rattle.drive.specs.Acting.{after}
 use Rattle.drive.proofs.boot.boot_write.Goals as goal
 
 pub returns : goal.returns
@@ -20,6 +20,6 @@ returns c =
     λ keys marks.
     let a = c.args in
     let d = a.registers.now in
-    let left : Answer → Outcome = λ x. outcome x d keys marks in
+    let left : Answer → Outcome = λ x. after x d keys marks in
     ap left c.boot_write.ensures
     ∙ judged_map (00·02 when ltb 1 a.partition ∷ 01·1E when not (same_lock (partition a.partition d.locks) WriteUnlocked) ∷ []) left Err (Ok Done)

@@ -12,7 +12,7 @@ use Rattle.rules.specs.Locks.{invalid_fields, not_changeable, changed}
 use Rattle.rules.specs.Order.{set_features}
 use Rattle.rules.proofs.ChecksLaws.{judged_map}
 use Rattle.locks.specs.Deciding.{decided, told}
-use Rattle.drive.specs.Acting.{outcome}
+use Rattle.drive.specs.Acting.{after}
 use Rattle.drive.proofs.boot.set_features.Goals as goal
 
 pub returns : goal.returns
@@ -22,6 +22,6 @@ returns c =
     let d = c.args.registers.now in
     let w = c.args.dword11 in
     let left : Result BootLocks Refusal → Outcome =
-    λ x. outcome (told x) (record { counts = d.counts; locks = result_unwrap_or x d.locks }) keys marks in
+    λ x. after (told x) (record { counts = d.counts; locks = result_unwrap_or x d.locks }) keys marks in
     rw (c.set_locks.ensures.0, c.set_locks.ensures.1)
     (judged_map (00·02 when invalid_fields w ∷ 01·0E when not_changeable d.locks w ∷ []) left Err (Ok (changed d.locks w)))

@@ -7,7 +7,7 @@ use Rattle.rules.specs.Effects.{empty_slots}
 use Rattle.rules.specs.Order.{clear_all}
 use Rattle.slots.specs.Cache.{cleared_up_to}
 use Rattle.slots.proofs.ClearLaws.{sound_clear}
-use Rattle.drive.specs.Acting.{state, outcome}
+use Rattle.drive.specs.Acting.{state, after}
 use Rattle.drive.proofs.ActingLaws.{passed_on, is_managed, unmanaged_refused}
 use Rattle.drive.proofs.keys.clear_all.Goals as goal
 
@@ -16,7 +16,7 @@ unfolding clear_all
 returns-in_err-tags c =
     λ marks. let a = c.args in
     let s = state a.registers.now a.keys.now marks in
-    ap (λ r. outcome r a.registers.now a.keys.now marks) (passed_on (err_from_is_err_and _ c.from_residual.ensures.1))
+    ap (λ r. after r a.registers.now a.keys.now marks) (passed_on (err_from_is_err_and _ c.from_residual.ensures.1))
     ∙ sym (unmanaged_refused a.registers.now a.keys.now marks a.ns (refuse s) _ _ c.in_err-tags.ensures)
 
 pub returns : goal.returns

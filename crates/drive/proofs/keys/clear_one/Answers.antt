@@ -2,7 +2,7 @@
 -- Assumes nothing.
 use Rattle.std.proofs.lemmas.Result.{err_from_is_err_and}
 use Rattle.std.proofs.Common.{[], ◌∙◌, ap}
-use Rattle.drive.specs.Acting.{outcome}
+use Rattle.drive.specs.Acting.{after}
 use Rattle.drive.proofs.ActingLaws.{passed_on, cache_of, found_small, clear_refused, clear_found}
 use Rattle.drive.proofs.keys.clear_one.Goals as goal
 
@@ -10,7 +10,7 @@ pub returns-in_err-place : goal.returns-in_err-place
 returns-in_err-place c =
     λ marks.
     let a = c.args in
-    ap (λ r. outcome r a.registers.now a.keys.now marks) (passed_on (err_from_is_err_and _ c.from_residual.ensures.1))
+    ap (λ r. after r a.registers.now a.keys.now marks) (passed_on (err_from_is_err_and _ c.from_residual.ensures.1))
     ∙ clear_refused a.registers.now a.keys.now marks a.ns a.tag _ c.in_err-place.ensures
 
 pub clear_at-requires : goal.clear_at-requires

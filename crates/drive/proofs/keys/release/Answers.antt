@@ -8,7 +8,7 @@ use Rattle.rules.specs.Order.{release}
 use Rattle.rules.proofs.StateLaws.{is_namespace_lem}
 use Rattle.slots.specs.Cache.{cleared_up_to}
 use Rattle.slots.proofs.ClearLaws.{sound_clear}
-use Rattle.drive.specs.Acting.{state, outcome}
+use Rattle.drive.specs.Acting.{state, after}
 use Rattle.drive.proofs.ActingLaws.{passed_on, is_managed, unmanaged_refused}
 use Rattle.drive.proofs.KeysLaws.{zeroed_is}
 use Rattle.drive.proofs.keys.release.Goals as goal
@@ -18,7 +18,7 @@ unfolding release
 returns-in_err-tags c =
     let a = c.args in
     let s = state a.registers.now a.keys.now c.args.marks.now in
-    ap (λ r. outcome r a.registers.now a.keys.now c.args.marks.now) (passed_on (err_from_is_err_and _ c.from_residual.ensures.1))
+    ap (λ r. after r a.registers.now a.keys.now c.args.marks.now) (passed_on (err_from_is_err_and _ c.from_residual.ensures.1))
     ∙ sym (unmanaged_refused a.registers.now a.keys.now c.args.marks.now a.ns (refuse s) _ _ c.in_err-tags.ensures)
 
 pub set_count-requires : goal.set_count-requires

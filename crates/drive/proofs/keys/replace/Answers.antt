@@ -3,7 +3,7 @@
 use Rattle.std.proofs.lemmas.Result.{err_from_is_err_and}
 use Rattle.std.proofs.Common.{[], ◌∙◌, ap}
 use Rattle.drive.specs.Contents.{contents}
-use Rattle.drive.specs.Acting.{outcome}
+use Rattle.drive.specs.Acting.{after}
 use Rattle.drive.proofs.ActingLaws.{passed_on, found_small, replace_refused, replace_found}
 use Rattle.drive.proofs.keys.replace.Goals as goal
 
@@ -11,7 +11,7 @@ pub returns-in_err-place : goal.returns-in_err-place
 returns-in_err-place c =
     λ marks.
     let a = c.args in
-    ap (λ r. outcome r a.registers.now a.keys.now marks) (passed_on (err_from_is_err_and _ c.from_residual.ensures.1))
+    ap (λ r. after r a.registers.now a.keys.now marks) (passed_on (err_from_is_err_and _ c.from_residual.ensures.1))
     ∙ replace_refused a.registers.now a.keys.now marks a.ns a.tag (contents a.x.uid.now a.x.key.now) a.old.now _ c.in_err-place.ensures
 
 pub replace_at-requires : goal.replace_at-requires

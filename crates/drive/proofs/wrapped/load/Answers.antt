@@ -4,7 +4,7 @@ use Rattle.std.proofs.lemmas.Result.{err_from_is_err_and}
 use Rattle.std.proofs.Common.{[], ap, refl, ◌∙◌}
 use Rattle.rules.specs.Numbers.{wrapped_size}
 use Rattle.rules.specs.Frames.{contents_at}
-use Rattle.drive.specs.Acting.{outcome}
+use Rattle.drive.specs.Acting.{after}
 use Rattle.drive.proofs.ActingLaws.{passed_on, found_passes}
 use Rattle.drive.proofs.WrappedLaws.{wrapped_refused}
 use Rattle.drive.proofs.wrapped.load.Goals as goal
@@ -13,7 +13,7 @@ pub returns-in_err-locate : goal.returns-in_err-locate
 returns-in_err-locate c =
     let a = c.args in (
       λ marks.
-          ap (λ r. outcome r a.registers.now a.keys.now marks) (passed_on (err_from_is_err_and _ c.from_residual.ensures.1))
+          ap (λ r. after r a.registers.now a.keys.now marks) (passed_on (err_from_is_err_and _ c.from_residual.ensures.1))
           ∙ wrapped_refused a.registers.now a.keys.now marks a.ns a.tag (contents_at wrapped_size 5 a.l a.f.now) _ c.in_err-locate.ensures,
       refl,
       λ z. z,
