@@ -8,7 +8,7 @@ use Prim.Native.Nat.{ℕ, zero, suc, ◌+◌, ◌-◌, ◌<◌, ◌≤◌}
 use native.Mathlib.Omega.{arith}
 use lib.ListN.{length, take, drop}
 use lib.Seq.{take-length}
-use lib.Dec.{leb}
+use lib.Dec.{eqb, leb}
 use borrow.Author.Tests.{le-leb, leb-true}
 use Rattle.std.specs.Prelude as std
 use Rattle.cells.specs.Cells.{part}
@@ -23,6 +23,7 @@ use Rattle.ttlv.specs.declared.Front.TheVariants.{Value, Structure}
 use Rattle.ttlv.specs.ItemList.{is_some}
 use Rattle.ttlv.specs.Reading.{item_at, Fronted}
 use Rattle.ttlv.proofs.FrontLaws.{found_fronted}
+use Rattle.rules.specs.Kmip.{from}
 use Rattle.kmip.specs.Runs.{or_end, items_in}
 
 -- ------------------------------------------------------------------------
@@ -82,6 +83,51 @@ unfolding read_at
 members_read ms items e = read_up (length ms) 1 ms items e
 
 -- ------------------------------------------------------------------------
+-- Each value has a length of its type
+
+unfoldable AllTyped : Items → Type 0
+AllTyped end = Unit {0}
+AllTyped (value t k v behind) = (is_value k (length v) ≡ true) × AllTyped behind
+AllTyped (structure t members behind) = AllTyped behind
+
+front_typed : (r : ℕ → List ℕ → Option Items) (each : (d : ℕ) (xs : List ℕ) (items : Items) → r d xs ≡ some items → AllTyped items)
+    (d : ℕ) (f : ttlv.Front) (items : Items) → Typed f → on_front r d f ≡ some items → AllTyped items
+unfolding AllTyped on_front
+front_typed r each d no_item items ty e = absurd (nothing_some e)
+front_typed r each d (a_value t k v rest) items ty e =
+    let s = with_value_some t k v (r d rest) items e in
+    rw s.2 (ty, each d rest s.0 s.1)
+front_typed r each d (a_structure t ms rest) items ty e =
+    let s = with_structure_some t (r (suc d) ms) (r d rest) items e in
+    rw s.4 (each d rest s.1 s.3)
+
+opened : (b : Bool) (o : Option Items) (items : Items) → cond b o none ≡ some items → o ≡ some items
+opened true o items e = e
+opened false o items e = absurd (nothing_some e)
+
+end_typed : (items : Items) → some end ≡ some items → AllTyped items
+unfolding AllTyped
+end_typed items e = let is : items ≡ end = cc in rw is tt
+
+read_typed : (steps d : ℕ) (xs : List ℕ) (items : Items) → read_by steps d xs ≡ some items → AllTyped items
+unfolding read_by
+read_typed zero d [] items e = end_typed items e
+read_typed zero d (x ∷ xs) items e = absurd (nothing_some e)
+read_typed (suc steps) d [] items e = end_typed items e
+read_typed (suc steps) d (x ∷ xs) items e =
+    front_typed (read_by steps) (λ d' ys is. read_typed steps d' ys is) d (front (x ∷ xs)) items (typed (x ∷ xs)) (opened (leb d deepest) _ items e)
+
+either_typed : (b : Bool) (x y : Items) → AllTyped x → AllTyped y → AllTyped (cond b x y)
+either_typed true x y h k = h
+either_typed false x y h k = k
+
+from_typed : (tag : ℕ) (items : Items) → AllTyped items → AllTyped (from tag items)
+unfolding AllTyped from
+from_typed tag end h = tt
+from_typed tag (value t k v behind) h = either_typed (eqb t tag) (value t k v behind) (from tag behind) h (from_typed tag behind h.1)
+from_typed tag (structure t members behind) h = either_typed (eqb t tag) (structure t members behind) (from tag behind) h (from_typed tag behind h)
+
+-- ------------------------------------------------------------------------
 -- The items of a run
 
 items_as : (xs : List ℕ) (items : Items) → read_items xs ≡ some items → items_in xs ≡ items
@@ -118,13 +164,12 @@ module _ (xs : List ℕ) (sound : is_some (read_items xs) ≡ true) where
       by (y ∷ ys) h = absurd (nothing_some (by_front no_item e (let l = ap length h in omega (arith, l))))
 
   front_value : (t k : ℕ) (v rest : List ℕ) → front xs ≡ a_value t k v rest
-      → (items_in xs ≡ value t k v (items_in rest)) × (is_some (read_items rest) ≡ true) × (is_value k (length v) ≡ true)
+      → (items_in xs ≡ value t k v (items_in rest)) × (is_some (read_items rest) ≡ true)
   unfolding on_front
   front_value t k v rest e =
       let more = some_bytes xs (λ n. let no : a_value t k v rest ≡ no_item = sym e ∙ n in cc) in
       let s = with_value_some t k v (read_at 1 rest) (items_in xs) (by_front _ e more) in
-      let ty : Typed (a_value t k v rest) = rw e at (typed xs) in
-      (s.2 ∙ ap (value t k v) (sym (items_as rest s.0 s.1)), ap is_some s.1, ty)
+      (s.2 ∙ ap (value t k v) (sym (items_as rest s.0 s.1)), ap is_some s.1)
 
   front_structure : (t : ℕ) (ms rest : List ℕ) → front xs ≡ a_structure t ms rest
       → (items_in xs ≡ structure t (items_in ms) (items_in rest)) × (is_some (read_items ms) ≡ true) × (is_some (read_items rest) ≡ true)
@@ -137,6 +182,13 @@ module _ (xs : List ℕ) (sound : is_some (read_items xs) ≡ true) where
         ap is_some m,
         ap is_some s.3,
       )
+
+pub value_typed : (xs : List ℕ) → is_some (read_items xs) ≡ true → (tag k : ℕ) (v : List ℕ) (behind : Items)
+    → from tag (items_in xs) ≡ value tag k v behind → is_value k (length v) ≡ true
+unfolding AllTyped read_at
+value_typed xs sound tag k v behind e =
+    let all = from_typed tag (items_in xs) (read_typed (length xs) 1 xs (items_in xs) (read_is xs sound)) in
+    (rw e at all).0
 
 -- ------------------------------------------------------------------------
 -- By places, and by what is lent of the bytes
@@ -169,7 +221,7 @@ module _ (xs : List ℕ) (sound : is_some (read_items xs) ≡ true) (t k n next 
   value_inside = let i = (stands xs (std.Some (Value t k n next)) e).inside in omega (arith, i.0, i.1)
 
   pub value_here : (items_in xs ≡ value t k (lent item_head (item_head + n) xs) (items_in (lent next (length xs) xs)))
-      × (is_some (read_items (lent next (length xs) xs)) ≡ true) × (is_value k (length (lent item_head (item_head + n) xs)) ≡ true)
+      × (is_some (read_items (lent next (length xs) xs)) ≡ true)
   value_here =
       front_value xs sound t k (lent item_head (item_head + n) xs) (lent next (length xs) xs)
       (ap front (sym (whole xs)) ∙ (stands xs (std.Some (Value t k n next)) e).is ∙ rw (lent_part n xs, lent_behind next xs))

@@ -6,7 +6,7 @@ use Rattle.std.proofs.Math.Option as math
 use Rattle.std.specs.Borrow.{Bor}
 use Rattle.rules.specs.Fields.{big_endian}
 use Rattle.rules.specs.Ttlv as ttlv
-use Rattle.rules.specs.Ttlv.{Items, end, value, structure, is_value, read_items}
+use Rattle.rules.specs.Ttlv.{Items, end, value, structure, read_items}
 use Rattle.rules.specs.Kmip.{Want, ◌is_a◌with◌, ◌holds◌, from, behind_of, members_of, value_then, structure_then, in_order, Operation, RequestPayload}
 use Rattle.kmip.specs.declared.run.Run.{Run}
 use Rattle.kmip.specs.declared.members.Body.{Body}
@@ -31,25 +31,19 @@ abbrev pub with_body : ℕ → Body → Items → Items
 with_body tag (Value kind bytes) behind = value tag kind bytes.now behind
 with_body tag (Structure run) behind = structure tag (items_of run) behind
 
-abbrev pub Typed : Body → Type 0
-Typed (Value kind bytes) = is_value kind (length bytes.now) ≡ true
-Typed (Structure run) = Unit {0}
-
 -- this item stands at the front of a run, and this run behind it
 pub record First (run : Run) (item : Item) (behind : Run) : Type 0 where
   pub is : items_of run ≡ with_body item.tag item.body (items_of behind)
-  pub typed : Typed item.body
   pub shorter : length behind.bytes.now < length run.bytes.now
 
 -- the first of these items with a tag was looked for; as a value of a type; as a number; as a structure
 abbrev pub Found : ℕ → Items → Option (Body × Run) → Type 0
-Found tag items r =
-    MatchOption r (from tag items ≡ end) (λ p. (from tag items ≡ with_body tag p.0 (items_of p.1)) × Typed p.0)
+Found tag items r = MatchOption r (from tag items ≡ end) (λ p. from tag items ≡ with_body tag p.0 (items_of p.1))
 
 abbrev pub FoundValue : ℕ → ℕ → Items → Option (Bor (List ℕ) × Run) → Type 0
 FoundValue tag kind items r =
     MatchOption r ((good : List ℕ → Bool) (more : Items → Bool) → value_then kind good more (from tag items) ≡ false)
-    (λ p. (from tag items ≡ value tag kind p.0.now (items_of p.1)) × (is_value kind (length p.0.now) ≡ true))
+    (λ p. from tag items ≡ value tag kind p.0.now (items_of p.1))
 
 abbrev pub type_of : NumberType → ℕ
 type_of Integer = ttlv.Integer

@@ -26,5 +26,5 @@ returns-then-worded c =
     (λ missed. value_missed AttributeName Text other items missed [])
     (λ p tested found.
     let told : c.is_some_and.result ≡ not (pointwise eqb p.0.now uid_name) = search (rules, tests) in
-    told ∙ ap not (same_bytes p.0.now uid_name) ∙ value_alone AttributeName Text other items _ _ found.0)
+    told ∙ ap not (same_bytes p.0.now uid_name) ∙ value_alone AttributeName Text other items _ _ found)
     ∙ ap (λ b. b && has (AttributeName is_a Text with other) items) (sym c.if-worded.true ∙ c.worded.ensures)

@@ -19,7 +19,7 @@ returns-in_err-key c =
 
 pub returns : goal.returns
 returns c =
-    let is = c.in_ok-key.ensures.0 in
+    let is = c.in_ok-key.ensures in
     rw c.ok.ensures.value
     (gives_as (λ key. key.now) _ (value_alone KeyMaterial ByteString (λ key. eqb (length key) key_size) (items_of c.args.run) _ _ is)
     (ap bytes_of (sym is)) (chunk_given key_size c.in_ok-key.key.now c.try_into.result c.try_into.ensures.1))

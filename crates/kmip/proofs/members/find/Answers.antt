@@ -21,4 +21,4 @@ returns c =
     let x = c.in_ok-item.item in
     let p = passed _ _ (from c.args.tag) (Other c.args.tag) (from_over c.args.tag) (λ x q h. search (rules, tests)) _ _ _ _ r.2.1 r.3 in
     let here : c.in_ok-item.item.tag ≡ c.args.tag = let h = r.4.1 in search (rules, tests) in
-    (p.1 ∙ ap (from c.args.tag) (r.2.2.is ∙ rw here) ∙ from_here c.args.tag x.body _, r.2.2.typed)
+    p.1 ∙ ap (from c.args.tag) (r.2.2.is ∙ rw here) ∙ from_here c.args.tag x.body _

@@ -44,7 +44,7 @@ pub returns-in-Value : goal.returns-in-Value
 returns-in-Value c =
     let e = a_value (goal.at.returns-in-Value c).In-Value in
     let h = value_here c.args.run.bytes.now c.args.run.sound _ _ _ _ e in
-    record { is = h.0; typed = h.2; shorter = value_shorter c.args.run.bytes.now c.args.run.sound _ _ _ _ e }
+    record { is = h.0; shorter = value_shorter c.args.run.bytes.now c.args.run.sound _ _ _ _ e }
 
 a_structure : (c : In-Structure)
     → item_at c.args.run.bytes.now 0 (length c.args.run.bytes.now) ≡ Some (Structure c.in-Structure.tag c.in-Structure.length)
@@ -82,6 +82,5 @@ returns-in-Structure c =
     let e = a_structure (goal.at.returns-in-Structure c).In-Structure in
     record {
       is = (structure_here c.args.run.bytes.now c.args.run.sound _ _ e).0;
-      typed = tt;
       shorter = structure_shorter c.args.run.bytes.now c.args.run.sound _ _ e;
     }

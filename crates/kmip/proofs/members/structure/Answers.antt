@@ -11,4 +11,4 @@ returns-in_err-body c = rw c.from_residual.ensures (λ good more. ap (structure_
 
 pub returns-in_default : goal.returns-in_default
 returns-in_default c =
-    no_structure c.args.tag c.in_ok-body.body _ _ c.in_ok-body.ensures.0 (λ run e. let i = c.in_default.is in cc)
+    no_structure c.args.tag c.in_ok-body.body _ _ c.in_ok-body.ensures (λ run e. let i = c.in_default.is in cc)

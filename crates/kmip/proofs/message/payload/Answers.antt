@@ -20,33 +20,33 @@ returns-in_err-uid c =
 pub returns-in_err-rest : goal.returns-in_err-rest
 returns-in_err-rest c =
     let s = c.args.slot in
-    rw c.from_residual-in_err-rest.ensures (no_object s.namespace s.tag (items_of c.args.run) _ _ c.in_ok-uid.ensures.0 c.in_err-rest.ensures)
+    rw c.from_residual-in_err-rest.ensures (no_object s.namespace s.tag (items_of c.args.run) _ _ c.in_ok-uid.ensures c.in_err-rest.ensures)
 
 pub returns-in_err-members : goal.returns-in_err-members
 returns-in_err-members c =
     let s = c.args.slot in
     rw c.from_residual-in_err-members.ensures
-    (no_attributes s.namespace s.tag (items_of c.args.run) _ _ c.in_ok-uid.ensures.0 _ c.in_ok-rest.ensures c.in_err-members.ensures)
+    (no_attributes s.namespace s.tag (items_of c.args.run) _ _ c.in_ok-uid.ensures _ c.in_ok-rest.ensures c.in_err-members.ensures)
 
 pub returns-in_err-parameters : goal.returns-in_err-parameters
 returns-in_err-parameters c =
     let s = c.args.slot in
     rw c.from_residual-in_err-parameters.ensures
-    (bad_attributes s.namespace s.tag (items_of c.args.run) _ _ c.in_ok-uid.ensures.0 _ c.in_ok-rest.ensures _ _ c.in_ok-members.ensures
+    (bad_attributes s.namespace s.tag (items_of c.args.run) _ _ c.in_ok-uid.ensures _ c.in_ok-rest.ensures _ _ c.in_ok-members.ensures
     c.in_err-parameters.ensures)
 
 pub returns-in_err-members-2 : goal.returns-in_err-members-2
 returns-in_err-members-2 c =
     let s = c.args.slot in
     rw c.from_residual-in_err-members-2.ensures
-    (no_key s.namespace s.tag (items_of c.args.run) _ _ c.in_ok-uid.ensures.0 _ c.in_ok-rest.ensures _ _ c.in_ok-members.ensures
+    (no_key s.namespace s.tag (items_of c.args.run) _ _ c.in_ok-uid.ensures _ c.in_ok-rest.ensures _ _ c.in_ok-members.ensures
     c.in_ok-parameters.ensures.0 c.in_err-members-2.ensures)
 
 pub returns-in_err-block : goal.returns-in_err-block
 returns-in_err-block c =
     let s = c.args.slot in
     rw c.from_residual-in_err-block.ensures
-    (bad_key s.namespace s.tag (items_of c.args.run) _ _ c.in_ok-uid.ensures.0 _ c.in_ok-rest.ensures _ _ c.in_ok-members.ensures
+    (bad_key s.namespace s.tag (items_of c.args.run) _ _ c.in_ok-uid.ensures _ c.in_ok-rest.ensures _ _ c.in_ok-members.ensures
     c.in_ok-parameters.ensures.0 _ _ c.in_ok-members-2.ensures c.in_err-block.ensures)
 
 pub returns : goal.returns
@@ -56,9 +56,9 @@ returns c =
     let block = c.in_ok-block.ensures in
     let in_block : items_of c.in_ok-block.block ≡ _ = ap (λ (p : Items × List ℕ). p.0) block.1 in
     let the_key : c.in_ok-block.key.now ≡ _ = ap (λ (p : Items × List ℕ). p.1) block.1 in
-    let is = payload_is s.namespace s.tag items _ _ c.in_ok-uid.ensures.0 _ c.in_ok-rest.ensures _ _ c.in_ok-members.ensures
+    let is = payload_is s.namespace s.tag items _ _ c.in_ok-uid.ensures _ c.in_ok-rest.ensures _ _ c.in_ok-members.ensures
     c.in_ok-parameters.ensures.0 _ _ c.in_ok-members-2.ensures block.0 in
-    let brought = brought_is s.namespace s.tag items _ _ c.in_ok-uid.ensures.0 _ c.in_ok-rest.ensures _ _ c.in_ok-members.ensures
+    let brought = brought_is s.namespace s.tag items _ _ c.in_ok-uid.ensures _ c.in_ok-rest.ensures _ _ c.in_ok-members.ensures
     c.in_ok-parameters.ensures.0 _ _ c.in_ok-members-2.ensures block.0 in
     rw c.then_some.ensures
     (given_by shown (record { uid = c.in_ok-uid.uid; key = c.in_ok-block.key }) (payload_good s.namespace s.tag items) c.aes.result

@@ -22,4 +22,4 @@ returns c =
     (λ missed. value_missed s.tag Text (λ name. same name text) items missed [])
     (λ p tested found.
     let told : c.is_some_and.result ≡ pointwise eqb p.0.now text = search (rules, tests) in
-    told ∙ same_bytes p.0.now text ∙ value_alone s.tag Text (λ name. same name text) items _ _ found.0)
+    told ∙ same_bytes p.0.now text ∙ value_alone s.tag Text (λ name. same name text) items _ _ found)
