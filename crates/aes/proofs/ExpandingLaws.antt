@@ -11,6 +11,7 @@ use native.Mathlib.Decide.{dec_lt}
 use lib.ListN.{length, get_or, take, drop, length-append, length-map, get_or-append}
 use lib.Seq.{get_or-append-add, get_or_at, get_or-take, get_or-drop, length-take-le}
 use lib.Dec.{eqb, lit<}
+use Rattle.std.proofs.lemmas.List.{get_or-map}
 use Rattle.cells.specs.Cells.{part}
 use Rattle.cells.proofs.CellsLaws.{get_d_part, length_part, part_four}
 use Rattle.rules.specs.AesBytes.{◌⊕◌, sub_byte}
@@ -195,19 +196,14 @@ key_at_lem w r h =
 -- ------------------------------------------------------------------------
 -- The round keys mixed back
 
-map_at : (f : ℕ → ℕ) (l : List ℕ) (i : ℕ) → i < length l → get_or (map f l) i 0 ≡ f (get_or l i 0)
-map_at f [] i h = absurd (omega arith)
-map_at f (x ∷ l) zero h = refl
-map_at f (x ∷ l) (suc i) h = map_at f l i (omega arith)
-
 module _ (table box w : List ℕ) (long : length w ≡ 60) where
-  pub front_size : length (take 4 w) ≡ 4
+  front_size : length (take 4 w) ≡ 4
   front_size = length-take-le 4 w (omega arith)
 
-  pub mid_size : length (map (unmixed_word table box) (part 4 52 w)) ≡ 52
+  mid_size : length (map (unmixed_word table box) (part 4 52 w)) ≡ 52
   mid_size = length-map (part 4 52 w) (unmixed_word table box) ∙ length_part 4 52 w (omega arith)
 
-  pub unmixed_first : (i : ℕ) → i < 4 → get_or (unmixed_by table box w) i 0 ≡ get_or w i 0
+  unmixed_first : (i : ℕ) → i < 4 → get_or (unmixed_by table box w) i 0 ≡ get_or w i 0
   unfolding unmixed_by
   unmixed_first i h = get_or-append (take 4 w) _ 0 i (omega (arith, front_size)) ∙ get_or-take 4 w i 0 h
 
@@ -217,13 +213,13 @@ module _ (table box w : List ℕ) (long : length w ≡ 60) where
       let r : List ℕ = map (unmixed_word table box) (part 4 52 w) ++ drop 56 w in
       ap (λ m. get_or (take 4 w ++ r) (m + i) 0) (sym front_size) ∙ get_or-append-add (take 4 w) r i 0
 
-  pub unmixed_mid : (i : ℕ) → i < 52 → get_or (unmixed_by table box w) (4 + i) 0 ≡ unmixed_word table box (get_or w (4 + i) 0)
+  unmixed_mid : (i : ℕ) → i < 52 → get_or (unmixed_by table box w) (4 + i) 0 ≡ unmixed_word table box (get_or w (4 + i) 0)
   unmixed_mid i h =
       behind i ∙ get_or-append (map (unmixed_word table box) (part 4 52 w)) _ 0 i (omega (arith, mid_size))
-      ∙ map_at (unmixed_word table box) (part 4 52 w) i (omega (arith, length_part 4 52 w (omega arith)))
+      ∙ get_or-map (unmixed_word table box) (part 4 52 w) i 0 0 (omega (arith, length_part 4 52 w (omega arith)))
       ∙ ap (unmixed_word table box) (get_d_part 4 52 i w h)
 
-  pub unmixed_last : (i : ℕ) → get_or (unmixed_by table box w) (4 + (52 + i)) 0 ≡ get_or w (56 + i) 0
+  unmixed_last : (i : ℕ) → get_or (unmixed_by table box w) (4 + (52 + i)) 0 ≡ get_or w (56 + i) 0
   unmixed_last i =
       behind (52 + i)
       ∙ ap (λ m. get_or (map (unmixed_word table box) (part 4 52 w) ++ drop 56 w) (m + i) 0) (sym mid_size)

@@ -1,4 +1,4 @@
--- What the loops over the words keep.
+-- Chunks of words; the rounds over the round keys, forward and back; and what the loops over the words keep.
 -- Assumes nothing.
 use mathlib.Core.Path.{◌≡◌, refl, sym, ap, ap₂, ◌∙◌}
 use mathlib.Core.List.{List, [], ◌∷◌, ◌++◌, map}
@@ -12,7 +12,7 @@ use lib.Dec.{lit<}
 use Rattle.std.specs.Int.{w32, from_be_bytes}
 use Rattle.std.specs.Simd.{first_chunks}
 use borrow.Rule.Slice.PartMut.{put_mid, mid_of}
-use Rattle.cells.specs.Cells.{part, write}
+use Rattle.cells.specs.Cells.{part}
 use Rattle.cells.proofs.CellsLaws.{grow}
 use Rattle.rules.specs.AesBytes.{◌⊕◌}
 use Rattle.aes.specs.Words.{word4, word_at}
@@ -20,26 +20,6 @@ use Rattle.aes.specs.ByTables.{mirrored, key_at, round_of, last_of, rounds_with,
 use Rattle.aes.specs.declared.Block.{Block}
 use Rattle.aes.proofs.WordsLaws.{from_bytes}
 use Rattle.aes.proofs.ExpandingLaws.{words_length, words_more}
-
--- four stores behind each other
-stores : (a : ℕ) (p q r s : ℕ) (xs : List ℕ) → suc (suc (suc a)) < length xs
-    → set (set (set (set xs a p) (suc a) q) (suc (suc a)) r) (suc (suc (suc a))) s ≡ write a 4 (p ∷ q ∷ r ∷ s ∷ []) xs
-unfolding write
-stores zero p q r s [] h = absurd (omega arith)
-stores zero p q r s (w ∷ []) h = absurd (omega arith)
-stores zero p q r s (w ∷ x ∷ []) h = absurd (omega arith)
-stores zero p q r s (w ∷ x ∷ y ∷ []) h = absurd (omega arith)
-stores zero p q r s (w ∷ x ∷ y ∷ z ∷ xs) h = refl
-stores (suc a) p q r s [] h = absurd (omega arith)
-stores (suc a) p q r s (x ∷ xs) h = ap (λ l. x ∷ l) (stores a p q r s xs (omega arith))
-
-pub set_four : (a : ℕ) (p q r s : ℕ) (xs : List ℕ) → a + 3 < length xs
-    → set (set (set (set xs a p) (a + 1) q) (a + 2) r) (a + 3) s ≡ write a 4 (p ∷ q ∷ r ∷ s ∷ []) xs
-set_four a p q r s xs h =
-    let e : a + 1 ≡ suc a = omega arith in
-    let f : a + 2 ≡ suc (suc a) = omega arith in
-    let g : a + 3 ≡ suc (suc (suc a)) = omega arith in
-    (λ i. set (set (set (set xs a p) (e i) q) (f i) r) (g i) s) ∙ stores a p q r s xs (omega arith)
 
 -- word j of chunk r
 pub chunk_word : (w : List ℕ) (k r : ℕ) → r < k → (j : ℕ) → j < 4 → get_or (get_or (first_chunks 4 k w) r []) j 0 ≡ get_or w (4 * r + j) 0

@@ -4,18 +4,19 @@
 use mathlib.Core.Path.{◌≡◌, sym, ap, ap₂, ◌∙◌}
 use mathlib.Core.List.{List, [], ◌∷◌, ◌++◌}
 use Prim.Native.Nat.{ℕ, ◌+◌, ◌*◌, ◌/◌, ◌%◌, ◌^◌, ◌<◌}
-use Rattle.std.specs.Int.{w32, from_be_bytes, rotate_left, rotate_right}
-use Rattle.std.proofs.lemmas.Nat.{or_comm, or_shifted}
+use Rattle.std.specs.Int.{w32, to_be_bytes, from_be_bytes, rotate_left, rotate_right}
+use Rattle.std.proofs.lemmas.Nat.{or_comm, or_shifted, be_bytes_4}
 use Rattle.std.proofs.Math.Nat.{add_comm}
 use native.Mathlib.Nat.{div-div-eq-div-mul}
 use native.Mathlib.Omega.{arith}
+use lib.ListN.{length}
 use lib.Bits.{bit_or, bit_xor, xor_block}
 use Rattle.rules.specs.Fields.{four_bytes}
 use Rattle.rules.specs.AesBytes.{◌⊕◌}
-use Rattle.rules.specs.AesPromises.{Bytes}
+use Rattle.rules.specs.AesPromises.{Small, Bytes}
 use Rattle.fips197.proofs.BytesLaws.{from, append_bytes, four_bytes_lem}
 use Rattle.aes.specs.Words.{word4, block_of, bytes_of, Fit}
-use Rattle.aes.specs.ByTables.{turned1, turned2, turned3}
+use Rattle.aes.specs.ByTables.{diagonal, turned1, turned2, turned3}
 use Rattle.aes.specs.declared.Block.{Block}
 
 pub word_whole : (w : ℕ) → w < 4294967296 → word4 (w / 16777216 % 256) (w / 65536 % 256) (w / 256 % 256) (w % 256) ≡ w
@@ -60,6 +61,17 @@ module _ (a b c d : ℕ) (ha : a < 256) (hb : b < 256) (hc : c < 256) (hd : d < 
 -- what the library calls these
 pub from_bytes : (a b c d : ℕ) → from_be_bytes w32 (a ∷ b ∷ c ∷ d ∷ []) ≡ word4 a b c d
 from_bytes a b c d = omega arith
+
+-- a word's own bytes are its diagonal
+pub own_diagonal : (w : ℕ) → w < 4294967296 → to_be_bytes w32 w ≡ diagonal w w w w
+own_diagonal w h =
+    let e : w / 16777216 % 256 ≡ w / 16777216 = omega arith in
+    ap (λ x. x ∷ w / 65536 % 256 ∷ w / 256 % 256 ∷ w % 256 ∷ []) e
+
+pub diagonal_back : (l : List ℕ) (w : ℕ) → length l ≡ 4 → Small l → from_be_bytes w32 l ≡ w → l ≡ diagonal w w w w
+diagonal_back l w long small e =
+    sym (be_bytes_4 l w long small (sym e))
+    ∙ own_diagonal w (omega (arith, e, small 0, small 1, small 2, small 3))
 
 pub high_byte : (a : ℕ) → from_be_bytes w32 (a ∷ 0 ∷ 0 ∷ 0 ∷ []) ≡ a * 16777216
 high_byte a = omega arith

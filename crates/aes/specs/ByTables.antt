@@ -18,6 +18,10 @@ turned2 w = w / 65536 + w % 65536 * 65536
 abbrev pub turned3 : ℕ → ℕ
 turned3 w = w / 16777216 + w % 16777216 * 256
 
+-- the first byte of a, the second of b, the third of c and the last of d
+abbrev pub diagonal : ℕ → ℕ → ℕ → ℕ → List ℕ
+diagonal a b c d = a / 16777216 ∷ b / 65536 % 256 ∷ c / 256 % 256 ∷ d % 256 ∷ []
+
 -- a mixed column: the first byte of a, the second of b, the third of c and the last of d, each looked up
 unfoldable pub column_of : List ℕ → ℕ → ℕ → ℕ → ℕ → ℕ
 column_of table a b c d =

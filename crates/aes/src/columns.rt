@@ -1,6 +1,7 @@
 // The steps of a round, a column at a time.
-ghost use Rattle.std.specs.Prelude.{◌≡◌, [], ◌∷◌, ℕ, ◌/◌, ◌%◌, ◌≤◌};
-ghost use Rattle.aes.specs.ByTables.{column_of, substituted_of};
+ghost use Rattle.std.specs.Prelude.{◌≡◌, ℕ, ◌≤◌};
+ghost use Rattle.std.specs.Int.{w32, from_be_bytes};
+ghost use Rattle.aes.specs.ByTables.{diagonal as diagonalOf, column_of, substituted_of};
 ghost use Rattle.aes.specs.ByTables.{added, mirrored as mirroredOf, round_of, last_of, key_at, Gives, rounds_with, ciphered};
 
 use crate::{Block, SCHEDULE};
@@ -14,7 +15,7 @@ pub(crate) const LAST_ROUND: usize = 14;
 
 // What a column is made of: the first byte of a, the second of b, the third of c and the last of d.
 fn diagonal(a: u32, b: u32, c: u32, d: u32) -> [u8; 4]
-    ensures { result ≡ a / 16777216 ∷ b / 65536 % 256 ∷ c / 256 % 256 ∷ d % 256 ∷ [] }
+    ensures { result ≡ diagonalOf a b c d }
 {
     let [x, ..] = a.to_be_bytes();
     let [_, y, ..] = b.to_be_bytes();
@@ -24,26 +25,26 @@ fn diagonal(a: u32, b: u32, c: u32, d: u32) -> [u8; 4]
 }
 
 // A mixed column: each byte looked up, and turned to its row.
-pub(crate) fn column(table: &[u32; 256], a: u32, b: u32, c: u32, d: u32) -> u32
-    ensures { result ≡ column_of table.now a b c d }
+pub(crate) fn mixed(table: &[u32; 256], bytes: [u8; 4]) -> u32
+    ensures { (a b c d : ℕ) → bytes ≡ diagonalOf a b c d → result ≡ column_of table.now a b c d }
 {
-    let [x, y, z, t] = diagonal(a, b, c, d);
+    let [x, y, z, t] = bytes;
     let front = table[usize::from(x)] ^ table[usize::from(y)].rotate_right(8);
     let back = table[usize::from(z)].rotate_right(16) ^ table[usize::from(t)].rotate_right(24);
     front ^ back
 }
 
 // The same bytes substituted alone.
-pub(crate) fn substituted(sub: &[u8; 256], a: u32, b: u32, c: u32, d: u32) -> u32
-    ensures { result ≡ substituted_of sub.now a b c d }
+pub(crate) fn substituted(sub: &[u8; 256], bytes: [u8; 4]) -> [u8; 4]
+    ensures { (a b c d : ℕ) → bytes ≡ diagonalOf a b c d → from_be_bytes w32 result ≡ substituted_of sub.now a b c d }
 {
-    let [x, y, z, t] = diagonal(a, b, c, d);
-    u32::from_be_bytes([
+    let [x, y, z, t] = bytes;
+    [
         sub[usize::from(x)],
         sub[usize::from(y)],
         sub[usize::from(z)],
         sub[usize::from(t)],
-    ])
+    ]
 }
 
 impl BitXor for Block {
@@ -103,14 +104,15 @@ impl Tables<'_> {
     fn round(&self, s: Block, key: Block) -> Block
         ensures { result ≡ round_of self.now.mix.now s key }
     {
-        s.by_diagonals(|a, b, c, d| column(self.mix, a, b, c, d)) ^ key
+        s.by_diagonals(|a, b, c, d| mixed(self.mix, diagonal(a, b, c, d))) ^ key
     }
 
     // The last round does not mix.
     fn last(&self, s: Block, key: Block) -> Block
         ensures { result ≡ last_of self.now.sub.now s key }
     {
-        s.by_diagonals(|a, b, c, d| substituted(self.sub, a, b, c, d)) ^ key
+        s.by_diagonals(|a, b, c, d| u32::from_be_bytes(substituted(self.sub, diagonal(a, b, c, d))))
+            ^ key
     }
 
     // The cipher under the round keys that `key` gives.

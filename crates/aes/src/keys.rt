@@ -4,7 +4,7 @@ ghost use Rattle.rules.specs.Aes.{schedule_words};
 ghost use Rattle.aes.specs.ByTables.{words_of, sub_word_by, turned_by, expanded_by, unmixed_word, unmixed_by};
 
 use crate::SCHEDULE;
-use crate::columns::{BLOCK_WORDS, Tables, column, substituted};
+use crate::columns::{BLOCK_WORDS, Tables, mixed, substituted};
 use rules::KEY_SIZE;
 
 const WORD_SIZE: usize = 4;
@@ -16,7 +16,7 @@ const ROUND_CONSTANTS: [u8; 10] = *b"\x01\x02\x04\x08\x10\x20\x40\x80\x1B\x36";
 fn sub_word(sub: &[u8; 256], w: u32) -> u32
     ensures { result ≡ sub_word_by sub.now w }
 {
-    substituted(sub, w, w, w, w)
+    u32::from_be_bytes(substituted(sub, w.to_be_bytes()))
 }
 
 // What word i - 8 is added to, made of word i - 1.
@@ -58,8 +58,7 @@ pub(crate) fn next_words(sub: &[u8; 256], w: &mut [u32; SCHEDULE])
 fn unmixed(tables: &Tables, w: u32) -> u32
     ensures { result ≡ unmixed_word tables.now.mix.now tables.now.sub.now w }
 {
-    let s = sub_word(tables.sub, w);
-    column(tables.mix, s, s, s, s)
+    mixed(tables.mix, substituted(tables.sub, w.to_be_bytes()))
 }
 
 // The words of rounds 1 to 13 mixed back.

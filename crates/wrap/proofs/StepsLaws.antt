@@ -90,10 +90,7 @@ module _ (c : List ℕ) (hc : Bytes 8 c) (t : ℕ) (ht : t < 256) where
       small (suc (suc (suc (suc (suc (suc (suc (suc i)))))))) = lit< tt
 
 -- ------------------------------------------------------------------------
--- Words read and stored where there are 40 bytes
-
-pub read : (s : List ℕ) (at v : ℕ) → at + 4 ≤ length s → v ≡ cond (within at 4 s) (word_at s at) 0 → v ≡ word_at s at
-read s at v h e = e ∙ ap (λ b. cond b (word_at s at) 0) (within_yes at 4 s h)
+-- Words stored where there are 40 bytes
 
 abbrev StoredAt : ℕ → ℕ → List ℕ → List ℕ → Type 0
 StoredAt at v s new = new ≡ cond (within at 4 s) (write at 4 (four_bytes v) s) s
@@ -115,9 +112,6 @@ module _ (s s1 s2 s3 s4 : List ℕ) (at : ℕ) (x : Block) (long : length s ≡ 
 
   l3 : length s3 ≡ 40
   l3 = stored_length s2 s3 0 x.a l2 (omega arith) e3
-
-  pub put_length : length s4 ≡ 40
-  put_length = stored_length s3 s4 4 x.b l3 (omega arith) e4
 
   pub put_words : s4 ≡ put_block at x s
   unfolding put_block

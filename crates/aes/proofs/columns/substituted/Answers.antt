@@ -9,10 +9,10 @@ use Rattle.aes.proofs.columns.substituted.Goals as goal
 
 pub returns : goal.returns
 unfolding substituted_of
-returns c =
+returns c = λ p q r v is.
     let s = c.args.sub.now in
-    let e = c.from.ensures ∙ ap (λ l. get_or l 0 0) c.diagonal.ensures in
-    let f = c.from-2.ensures ∙ ap (λ l. get_or l 1 0) c.diagonal.ensures in
-    let g = c.from-3.ensures ∙ ap (λ l. get_or l 2 0) c.diagonal.ensures in
-    let h = c.from-4.ensures ∙ ap (λ l. get_or l 3 0) c.diagonal.ensures in
-    c.from_be_bytes.ensures ∙ from_bytes _ _ _ _ ∙ (λ i. word4 (get_or s (e i) 0) (get_or s (f i) 0) (get_or s (g i) 0) (get_or s (h i) 0))
+    let e = c.from.ensures ∙ ap (λ l. get_or l 0 0) is in
+    let f = c.from-2.ensures ∙ ap (λ l. get_or l 1 0) is in
+    let g = c.from-3.ensures ∙ ap (λ l. get_or l 2 0) is in
+    let h = c.from-4.ensures ∙ ap (λ l. get_or l 3 0) is in
+    from_bytes _ _ _ _ ∙ (λ i. word4 (get_or s (e i) 0) (get_or s (f i) 0) (get_or s (g i) 0) (get_or s (h i) 0))
