@@ -173,7 +173,8 @@ set old head key =
     take head_size (head ++ drop head_size old)
     ++ (key ++ drop (length (head ++ drop head_size old) - head_size) (drop head_size (head ++ drop head_size old)))
 
-set_parts : (old head key : List ℕ) → length old ≡ slot_width → length head ≡ head_size → length key ≡ key_size → set old head key ≡ head ++ key
+set_parts : (old head key : List ℕ) → length old ≡ slot_width → length head ≡ head_size → length key ≡ key_size
+    → set old head key ≡ head ++ key
 set_parts old head key whole l full =
     let rest : length (drop head_size old) ≡ key_size = simp length-drop (omega arith) in
     let n : length (head ++ drop head_size old) - head_size ≡ key_size = simp length-append (omega arith) in
