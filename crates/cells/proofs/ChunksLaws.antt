@@ -42,11 +42,6 @@ drop_chunks w (suc i) (suc m) xs h =
     ∙ ap (first_chunks w (m - i)) (drop-drop (i * w) w xs ∙ ap (λ k. drop k xs) (next i w))
     ∙ ap (λ k. first_chunks w k (drop (suc i * w) xs)) (sym e)
 
--- the n from cell i on
-pub run_chunks : (w i n m : ℕ) (xs : List ℕ) → i + n ≤ m → take n (drop i (first_chunks w m xs)) ≡ first_chunks w n (drop (i * w) xs)
-run_chunks w i n m xs h =
-    ap (take n) (drop_chunks w i m xs (omega arith)) ∙ take_chunks w n (m - i) (drop (i * w) xs) (omega arith)
-
 pub chunk_at : (w i m : ℕ) (xs d : List ℕ) → i < m → get_or (first_chunks w m xs) i d ≡ cell w i xs
 unfolding cell part
 chunk_at w i zero xs d h = absurd (omega arith)

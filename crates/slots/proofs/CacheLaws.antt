@@ -7,7 +7,7 @@ use mathlib.Core.Logic.{by_cases}
 use Prim.Native.Nat.{ℕ, min, ◌+◌, ◌-◌, ◌*◌, ◌≤◌, ◌<◌}
 use native.Mathlib.Decide.{ℕ_discrete, dec_lt}
 use native.Mathlib.Omega.{arith}
-use lib.ListN.{length, get_or, take, drop, replicate, length-append, length-drop, drop_of_length-le}
+use lib.ListN.{length, get_or, take, drop, length-append, length-drop, drop_of_length-le}
 use lib.Dec.{eqb}
 use lib.Seq.{take_at, drop_at, take_all}
 use denote.Bor.{Bor}
@@ -38,10 +38,6 @@ module _ (keys : List ℕ) (size : length keys ≡ cache_size) where
   unfolding slot_at
   slot_is place h = rw (right_cache keys size, lt-ltb place slot_places h)
 
-  pub slot_past : (place : ℕ) → slot_places ≤ place → slot_at place keys ≡ []
-  unfolding slot_at
-  slot_past place h = rw (right_cache keys size, le-ltb place slot_places h)
-
   -- `store` itself takes an empty KeyUID
   pub stored_short : (place : ℕ) (x : Contents) → place < slot_places → length x.uid ≤ uid_most → length x.key ≡ key_size
       → stored place x keys ≡ put slot_width place (slot_bytes x) keys
@@ -60,10 +56,6 @@ module _ (keys : List ℕ) (size : length keys ≡ cache_size) where
       → cleared_up_to ns count keys ≡ fill slot_width (place_of ns (key_tag 0)) (tags_up_to count) emptied keys
   unfolding cleared_up_to
   cleared_up_to_is ns count is = rw (right_cache keys size, is)
-
-  pub cleared_all_is : cleared_all keys ≡ fill slot_width 0 slot_places emptied keys
-  unfolding cleared_all
-  cleared_all_is = rw (right_cache keys size)
 
 pub cleared_all_zeros : (keys : List ℕ) → cleared_all keys ≡ cond (wrong_cache keys) keys (zeros slots_size ++ drop slots_size keys)
 unfolding cleared_all
@@ -181,7 +173,8 @@ set old head key =
     take head_size (head ++ drop head_size old)
     ++ (key ++ drop (length (head ++ drop head_size old) - head_size) (drop head_size (head ++ drop head_size old)))
 
-set_parts : (old head key : List ℕ) → length old ≡ slot_width → length head ≡ head_size → length key ≡ key_size → set old head key ≡ head ++ key
+set_parts : (old head key : List ℕ) → length old ≡ slot_width → length head ≡ head_size → length key ≡ key_size
+    → set old head key ≡ head ++ key
 set_parts old head key whole l full =
     let rest : length (drop head_size old) ≡ key_size = simp length-drop (omega arith) in
     let n : length (head ++ drop head_size old) - head_size ≡ key_size = simp length-append (omega arith) in

@@ -4,21 +4,20 @@
 -- Assumes nothing.
 use mathlib.Core.Path.{◌≡◌, refl, sym, ap, ◌∙◌}
 use mathlib.Core.Bool.{true, false}
-use mathlib.Core.Logic.{inr, by_cases}
+use mathlib.Core.Logic.{inr}
 use mathlib.Core.List.{List}
 use Prim.Native.Nat.{ℕ, zero, suc, ◌+◌, ◌-◌, ◌*◌, ◌%◌, ◌≤◌, ◌<◌}
 use native.Mathlib.Omega.{arith}
 use native.Mathlib.Numerals.{add-one}
 use lib.ListN.{length, get_or}
-use native.Mathlib.Decide.{dec_lt}
-use borrow.Author.Tests.{le-leb, lt-ltb, le-ltb, not-false}
+use borrow.Author.Tests.{le-leb, le-ltb, not-false}
 use Rattle.cells.specs.Cells.{cell, fill}
 use Rattle.cells.specs.Predicates.{all_zero}
 use Rattle.cells.proofs.CellsLaws.{length_zeros, length_cell, length_fill, cell_fill_out, fill_none, fill_join, fill_enough}
 use Rattle.cells.proofs.PredicatesLaws.{neither, all_zero_eq}
 use Rattle.rules.specs.declared.Namespace.{Namespace}
 use Rattle.rules.specs.Numbers.{namespaces, tags_most, slot_width, slot_places, cache_size}
-use Rattle.rules.specs.State.{State, wrong_cache, namespace, key_tag, no_namespace, count}
+use Rattle.rules.specs.State.{State, namespace, key_tag, no_namespace, count}
 use Rattle.rules.specs.Slots.{place_of, emptied}
 use Rattle.rules.specs.Sound.{unsound}
 use Rattle.rules.proofs.StateLaws.{is_namespace_lem}

@@ -59,7 +59,8 @@ abbrev pub other_below : ℕ → List ℕ → List ℕ → ℕ → List ℕ → 
 other_below count head key i c = ltb (i % tags_most) count && other_key_behind head key c
 
 -- the slots that are looked at: a count above all of them is as good as all
-pub first_slots : (count : ℕ) (slots : List (List ℕ)) {n : ℕ} → length slots ≡ tags_most → n ≡ min count tags_most → take n slots ≡ take count slots
+pub first_slots : (count : ℕ) (slots : List (List ℕ)) {n : ℕ} → length slots ≡ tags_most → n ≡ min count tags_most
+    → take n slots ≡ take count slots
 first_slots count slots size is =
     by_cases (dec_lt count tags_most)
     (λ less. let e : min count tags_most ≡ count = omega arith in rw (is, e))

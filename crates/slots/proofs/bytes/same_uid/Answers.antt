@@ -1,7 +1,7 @@
 -- `same_uid` meets its contract: the part that is compared is the slot's KeyUID.
 -- Assumes nothing.
 use native.Mathlib.Omega.{arith}
-use mathlib.Core.Path.{◌≡◌, sym, ap, ◌∙◌}
+use mathlib.Core.Path.{◌≡◌, ap, ◌∙◌}
 use Prim.Native.Nat.{min, ◌-◌}
 use lib.ListN.{length, take, drop, length-drop}
 use lib.Seq.{length-take-le}
