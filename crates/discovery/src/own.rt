@@ -6,6 +6,7 @@ use rules::{
     DiscoveryHeader, KeyPerIo, POOL_SLOTS, TAGS_MOST, Tper, UID_MOST, VENDOR_SPECIFIC_SIZE,
 };
 
+#[tactic(auto, unfolding(rules::specs::Discovery::own_header, cells::specs::Cells::zeros))]
 pub(crate) fn header() -> DiscoveryHeader
     ensures { result ≡ own_header }
 {
@@ -15,6 +16,7 @@ pub(crate) fn header() -> DiscoveryHeader
     }
 }
 
+#[tactic(auto, unfolding(rules::specs::Discovery::own_tper))]
 pub(crate) fn tper() -> Tper
     ensures { result ≡ own_tper }
 {
@@ -29,6 +31,7 @@ pub(crate) fn tper() -> Tper
     }
 }
 
+#[tactic(auto, unfolding(rules::specs::Discovery::own_key_per_io))]
 pub(crate) fn key_per_io() -> KeyPerIo
     ensures { result ≡ own_key_per_io }
 {

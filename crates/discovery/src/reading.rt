@@ -9,6 +9,7 @@ use rules::{
 };
 
 // Two and four bytes from at, the highest first.
+#[tactic(auto, using(crate::proofs::ReadingLaws::word_is))]
 pub(crate) fn word(d: &[u8], at: usize) -> u16
     requires { at + 2 ≤ length d.now }
     ensures { result ≡ big_endian (part at 2 d.now) }
@@ -16,6 +17,7 @@ pub(crate) fn word(d: &[u8], at: usize) -> u16
     u16::from_be_bytes([d[at], d[at + 1]])
 }
 
+#[tactic(auto, using(crate::proofs::ReadingLaws::dword_is))]
 pub(crate) fn dword(d: &[u8], at: usize) -> u32
     requires { at + 4 ≤ length d.now }
     ensures { result ≡ big_endian (part at 4 d.now) }
@@ -23,6 +25,7 @@ pub(crate) fn dword(d: &[u8], at: usize) -> u32
     u32::from_be_bytes([d[at], d[at + 1], d[at + 2], d[at + 3]])
 }
 
+#[tactic(auto, unfolding(rules::specs::Discovering::header_from, cells::specs::Cells::part))]
 pub(crate) fn header(d: &[u8; HEADER_SIZE]) -> DiscoveryHeader
     ensures { result ≡ header_from d.now }
 {
@@ -34,6 +37,7 @@ pub(crate) fn header(d: &[u8; HEADER_SIZE]) -> DiscoveryHeader
     }
 }
 
+#[tactic(auto, unfolding(rules::specs::Discovering::tper_from))]
 fn tper_from(f: &[u8; TPER_SIZE]) -> Tper
     ensures { result ≡ tper_from f.now }
 {
@@ -49,6 +53,7 @@ fn tper_from(f: &[u8; TPER_SIZE]) -> Tper
     }
 }
 
+#[tactic(auto, unfolding(rules::specs::Discovering::key_per_io_from))]
 fn key_per_io_from(f: &[u8; KEY_PER_IO_SIZE]) -> KeyPerIo
     ensures { result ≡ key_per_io_from f.now }
 {

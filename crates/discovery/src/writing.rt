@@ -15,6 +15,7 @@ const TPER_LENGTH: u8 = (TPER_SIZE - HEAD_SIZE) as u8;
 
 const KEY_PER_IO_LENGTH: u8 = (KEY_PER_IO_SIZE - HEAD_SIZE) as u8;
 
+#[tactic(auto, unfolding(rules::specs::Discovery::header_bytes, cells::specs::Cells::zeros))]
 pub(crate) fn header_bytes(h: DiscoveryHeader) -> [u8; HEADER_SIZE]
     ensures { result ≡ header_bytes h }
 {
@@ -25,6 +26,7 @@ pub(crate) fn header_bytes(h: DiscoveryHeader) -> [u8; HEADER_SIZE]
     bytes
 }
 
+#[tactic(auto, unfolding(rules::specs::Discovery::tper_bytes, cells::specs::Cells::zeros))]
 pub(crate) fn tper_bytes(t: Tper) -> [u8; TPER_SIZE]
     ensures { result ≡ tper_bytes t }
 {
