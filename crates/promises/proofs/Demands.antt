@@ -1,6 +1,7 @@
 -- The demands of specs/Demands.antt: what the code leaves is what `rules` says,
 -- and `rules` keeps them. A history since a start is one from a fresh drive.
 -- Assumes nothing.
+use Rattle.std.specs.Prelude.{Ok, Err}
 use mathlib.Core.Path.{◌≡◌, refl, sym, ap, ◌∙◌}
 use mathlib.Core.List.{List, [], ◌∷◌, ◌++◌}
 use mathlib.Core.Logic.{⊎_elim}
@@ -34,7 +35,7 @@ use Rattle.promises.proofs.LeavesLaws.{start_is, call_is, session_is}
 -- ------------------------------------------------------------------------
 -- A start that is not refused is a fresh drive
 
-fresh_start : (kek keys store : List ℕ) (o : Outcome) → StartLeaves kek keys store o → o.answer ≡ (Ok Done) → o.state ≡ fresh kek
+fresh_start : (kek keys store : List ℕ) (o : Outcome) → StartLeaves kek keys store o → o.answer ≡ Ok Done → o.state ≡ fresh kek
 fresh_start kek keys store o l e =
     ⊎_elim
     (λ f. absurd (accepted_not (Ok Done) f.0 refl (sym e ∙ (rules.start_refused_when kek keys store o (start_is kek keys store o l) f.0).1 f.1.0)))

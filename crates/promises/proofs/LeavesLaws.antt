@@ -2,6 +2,7 @@
 -- lists, and the three calls from C for an office and a courier leave is what the
 -- definitions say: their contracts, at the values that went in.
 -- Assumes nothing.
+use Rattle.std.specs.Prelude.{Result}
 use mathlib.Core.Path.{◌≡◌, ap, ◌∙◌}
 use mathlib.Core.List.{List}
 use Prim.Native.Nat.{ℕ}
@@ -9,6 +10,7 @@ use Rattle.rules.specs.State.{State, Outcome}
 use Rattle.rules.specs.Start.{start}
 use Rattle.rules.specs.Call.{Called, call}
 use Rattle.rules.specs.Sessions.{Session, session}
+use Rattle.rules.specs.declared.Refusal.{Refusal}
 use Rattle.rules.specs.declared.DiscoveryFields.{DiscoveryFields}
 use Rattle.rules.specs.declared.Discovered.{Discovered}
 use Rattle.rules.specs.Discovering.{Responded, respond, discovered}
@@ -44,7 +46,7 @@ session_is s text out o l = l.leaves ∙ l.run.meets ∙ all_same session l.on_s
 pub response_is : (f : DiscoveryFields) (out : List ℕ) (o : Responded) → ResponseLeaves f out o → o ≡ respond f out
 response_is f out o l = l.leaves ∙ l.run.meets ∙ both_same respond l.on_fields l.on_out
 
-pub finding_is : (d : List ℕ) (o : Discovered) → ReadFinds d o → o ≡ discovered d
+pub finding_is : (d : List ℕ) (o : Result Discovered Refusal) → ReadFinds d o → o ≡ discovered d
 finding_is d o l = l.leaves ∙ l.run.meets ∙ ap discovered l.on_bytes
 
 pub reading_is : (xs places : List ℕ) (o : Reading) → ListReadLeaves xs places o → o ≡ read_list xs places

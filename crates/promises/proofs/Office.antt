@@ -1,6 +1,7 @@
 -- The office's promise holds: what is written is the message of the load, its line
 -- is read as that load, and a load that passes puts its key there.
 -- Assumes nothing.
+use Rattle.std.specs.Prelude.{Ok}
 use mathlib.Core.Path.{◌≡◌, refl, sym, ap, ◌∙◌}
 use mathlib.Core.Bool.{false, ◌&&◌, cond}
 use mathlib.Core.List.{List, ◌++◌}
@@ -30,7 +31,6 @@ use Rattle.rules.proofs.ChecksLaws.{append_pass}
 use Rattle.rules.proofs.StateLaws.{is_namespace_lem}
 use Rattle.rules.proofs.EffectsLaws.{named_slot}
 use Rattle.rules.proofs.MessageLineLaws.{message_line_loads}
-use Rattle.kmip.specs.declared.MessageWritten.TheVariants.{Bytes}
 use Rattle.kmip.specs.Writing.{Wrote, message_room, message_bytes}
 use Rattle.kmip.proofs.LayingLaws.{written}
 use Rattle.tuffaleen_c.specs.Office.{message_answer, message_length, CMessage, c_message}
@@ -57,7 +57,7 @@ module _ (ns tag : ℕ) (x : Contents) (out : List ℕ) (hn : ns < 2 ^ 8) (ht : 
       let some = fit.some in
       neither _ _ (ne_eqb (length x.uid) 0 (omega arith)) (le-ltb uid_most (length x.uid) fit.short)
 
-  wrote : m ≡ told (record { result = Bytes (length bytes); out = bytes ++ drop (length bytes) out })
+  wrote : m ≡ told (record { result = Ok (length bytes); out = bytes ++ drop (length bytes) out })
   unfolding c_message
   wrote =
       message_is ns tag x.uid x.key out m l
@@ -95,7 +95,7 @@ module _ (h : List Event) (s : State) (led : SinceStart h s) (ns tag : ℕ) (x :
   unfolding order.load
   is_slot = named_slot s (demands.never_unsound h s led) (namespace ns) (key_tag tag) (is_namespace_lem (namespace ns) p.0) p.1.1.0
 
-  after : (a : Answer) (f : Frame) (older : Held) → a ≡ (Ok Done) → f ≡ frames.load (namespace ns) (key_tag tag) x
+  after : (a : Answer) (f : Frame) (older : Held) → a ≡ Ok Done → f ≡ frames.load (namespace ns) (key_tag tag) x
       → cond (accepted a && touches (namespace ns) (key_tag tag) f) (leaves (key_encryption_key o.state) f) older ≡ holding x
   after a f older e g = rw (e, g, eq-eqb ns ns refl, eq-eqb tag tag refl) refl
 

@@ -1,6 +1,7 @@
 -- Every public contract is tight: it asks nothing, and two outcomes that it
 -- allows both equal what a definition gives for the entry values.
 -- Assumes nothing.
+use Rattle.std.specs.Prelude.{Result}
 use mathlib.Core.Path.{◌≡◌, sym, ap, ◌∙◌}
 use mathlib.Core.Bool.{Bool}
 use mathlib.Core.List.{List}
@@ -8,6 +9,7 @@ use base.Logic.{emp, id⊢}
 use contract.Monad.{conj_l, conj_r, fact_use, fact_i}
 use Prim.Native.Nat.{ℕ}
 use Rattle.rules.specs.Answer.{Answer}
+use Rattle.rules.specs.declared.Refusal.{Refusal}
 use Rattle.rules.specs.declared.BootLocks.{BootLocks}
 use Rattle.rules.specs.State.{Outcome}
 use Rattle.rules.specs.Call.{Called as CallLeft}
@@ -159,7 +161,7 @@ pub tight_digits_write_answer : Tight-digits-write-answer
 tight_digits_write_answer = (λ κs args. tt, λ κs args r r' e e' p q. ap (λ (w : Wrote). (w.bytes, w.out)) (one p q))
 
 both_read : {w v : ReadFrom} {b c : List ℕ} → w ≡ v → b ≡ c
-    → ◌≡◌ {A = FrameRead × (List ℕ × List ℕ)} (w.read, (w.frame, b)) (v.read, (v.frame, c))
+    → ◌≡◌ {A = Result FrameRead Refusal × (List ℕ × List ℕ)} (w.read, (w.frame, b)) (v.read, (v.frame, c))
 both_read e f = cc
 
 pub tight_frames_read : Tight-frames-read

@@ -1,7 +1,7 @@
 -- What is promised to a courier's two ends, of the code: of what `tuffaleen_wrap`
 -- and `tuffaleen_unwrap` leave (Leaves.antt). proofs/Courier.antt has a proof of each.
 -- Assumes nothing.
-use Rattle.std.specs.Prelude.{◌≡◌, List, ◌++◌, ℕ, length}
+use Rattle.std.specs.Prelude.{◌≡◌, List, ◌++◌, ℕ, length, Ok, Err}
 use Rattle.std.proofs.Math.Option.{none, some}
 use Rattle.cells.specs.Cells.{zeros}
 use Rattle.rules.specs.declared.Granted.TheVariants.{Done}

@@ -3,7 +3,7 @@
 -- any of them called in any order. (Demand 1's rest is the proved code itself:
 -- Defined.antt.) proofs/Demands.antt has a proof of each.
 -- Assumes nothing.
-use Rattle.std.specs.Prelude.{◌≡◌, List, [], ◌∷◌, ◌++◌, ℕ, length, take}
+use Rattle.std.specs.Prelude.{◌≡◌, List, [], ◌∷◌, ◌++◌, ℕ, length, take, Ok, Err}
 use Rattle.rules.specs.declared.Refusal.{Refusal}
 use Rattle.rules.specs.Answer.{Answer}
 use Rattle.rules.specs.declared.Granted.TheVariants.{Done}
@@ -31,7 +31,7 @@ pub record Shows (o : Session) (answers : List Answer) : Type 0 where
 -- call's answer is the one that it returned; a session's are those that its output shows.
 pub data SinceStart : List Event → State → Type 0 where
   started : (kek keys store : List ℕ) → length kek ≡ kek_size
-      → (o : Outcome) → StartLeaves kek keys store o → o.answer ≡ (Ok Done) → SinceStart [] o.state
+      → (o : Outcome) → StartLeaves kek keys store o → o.answer ≡ Ok Done → SinceStart [] o.state
   answered : (h : List Event) (s : State) → SinceStart h s
       → (line out : List ℕ) (o : Called) → CallLeaves s line out o → AllPass (call_checks s (room_for line) out)
       → SinceStart (record { line = line; answer = o.answer } ∷ h) o.state

@@ -4,10 +4,11 @@
 -- meet the function's contract.
 -- In `args` and `exit`, .0 is the first parameter, .1 .0 the second, and so on.
 -- Assumes nothing.
-use Rattle.std.specs.Prelude.{◌≡◌, List, ℕ}
+use Rattle.std.specs.Prelude.{◌≡◌, List, ℕ, Result}
 use Rattle.rules.specs.State.{State, Outcome}
 use Rattle.rules.specs.Call.{Called}
 use Rattle.rules.specs.Sessions.{Session}
+use Rattle.rules.specs.declared.Refusal.{Refusal}
 use Rattle.rules.specs.declared.DiscoveryFields.{DiscoveryFields}
 use Rattle.rules.specs.declared.Discovered.{Discovered}
 use Rattle.rules.specs.Discovering.{Responded}
@@ -79,7 +80,7 @@ pub record ResponseLeaves (f : DiscoveryFields) (out : List ℕ) (o : Responded)
   pub leaves : o ≡ record { answer = run.result; out = run.exit.1.0.now }
 
 -- read(bytes)
-pub record ReadFinds (d : List ℕ) (o : Discovered) : Type 0 where
+pub record ReadFinds (d : List ℕ) (o : Result Discovered Refusal) : Type 0 where
   pub run : Run discovery-read.Learnt
   pub on_bytes : run.args.0.now ≡ d
   pub leaves : o ≡ run.result

@@ -2,7 +2,7 @@
 -- and of what the call for a line then does with it (Leaves.antt).
 -- proofs/Office.antt has a proof.
 -- Assumes nothing.
-use Rattle.std.specs.Prelude.{◌≡◌, List, ◌∷◌, ℕ, ◌/◌, ◌%◌, ◌^◌, ◌≤◌, ◌<◌, length, take}
+use Rattle.std.specs.Prelude.{◌≡◌, List, ◌∷◌, ℕ, ◌/◌, ◌%◌, ◌^◌, ◌≤◌, ◌<◌, length, take, Ok}
 use Rattle.rules.specs.declared.Granted.TheVariants.{Done}
 use Rattle.rules.specs.Checks.{AllPass}
 use Rattle.rules.specs.Answers.{number, digits_of}

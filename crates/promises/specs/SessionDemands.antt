@@ -2,7 +2,7 @@
 -- line of its text, and any keeps the key-encryption key. proofs/Demands.antt has a
 -- proof of each.
 -- Assumes nothing.
-use Rattle.std.specs.Prelude.{◌≡◌, List, ℕ, length}
+use Rattle.std.specs.Prelude.{◌≡◌, List, ℕ, length, Ok}
 use Rattle.rules.specs.Answer.{Answer}
 use Rattle.rules.specs.declared.Granted.TheVariants.{Done}
 use Rattle.rules.specs.State.{State}

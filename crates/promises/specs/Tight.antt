@@ -3,7 +3,7 @@
 -- caller is asked to check first. Stated for every public function, crate by
 -- crate; proofs/Tight.antt has a proof of each.
 -- Assumes nothing.
-use Rattle.std.specs.Prelude.{◌≡◌, Bool, List, ℕ}
+use Rattle.std.specs.Prelude.{◌≡◌, Bool, List, ℕ, Option, Result}
 use base.Logic.{ent, emp}
 use contract.Monad.{conj, fact}
 use contract.Lifetimes.{Lfts}
@@ -11,10 +11,10 @@ use denote.Triple.Clauses.{Clauses, AtExit}
 use borrow.Fn.World.{World, ArgsD}
 use Rattle.rules.specs.Answer.{Answer}
 use Rattle.rules.specs.declared.BootLocks.{BootLocks}
-use Rattle.rules.specs.declared.LineRead.{LineRead}
+use Rattle.rules.specs.declared.BadLine.{BadLine}
+use Rattle.rules.specs.declared.Refusal.{Refusal}
 use Rattle.rules.specs.declared.DiscoveryFields.{DiscoveryFields}
 use Rattle.rules.specs.declared.Discovered.{Discovered}
-use Rattle.locks.specs.declared.Changed.{Changed}
 use Rattle.frames.specs.declared.FrameRead.{FrameRead}
 use Rattle.drive.specs.declared.Answered.{Answered}
 use Rattle.drive.specs.declared.Reply.{Reply}
@@ -42,10 +42,10 @@ use Rattle.aes.proofs.inv_cipher.Reads as aes-inv-cipher
 use Rattle.wrap.proofs.wrap.Reads as wrap-wrap
 use Rattle.wrap.proofs.unwrap.Reads as wrap-unwrap
 use Rattle.ttlv.specs.declared.Front.{Front}
-use Rattle.ttlv.specs.declared.ListRead.{ListRead}
-use Rattle.ttlv.specs.declared.Written.{Written}
-use Rattle.kmip.specs.declared.MessageRead.{MessageRead}
-use Rattle.kmip.specs.declared.MessageWritten.{MessageWritten}
+use Rattle.ttlv.specs.declared.ReadError.{ReadError as NotListed}
+use Rattle.ttlv.specs.declared.WriteError.{WriteError as NotWritten}
+use Rattle.kmip.specs.declared.ReadError.{ReadError as NotRead}
+use Rattle.kmip.specs.declared.WriteError.{WriteError as NotSent}
 use Rattle.discovery.proofs.own_fields.Reads as discovery-own-fields
 use Rattle.discovery.proofs.write.Reads as discovery-write
 use Rattle.discovery.proofs.read.Reads as discovery-read
@@ -176,29 +176,29 @@ abbrev pub Tight-discovery-write : Type 0
 Tight-discovery-write = Tight {Left = Answer × List ℕ} discovery-write.Asked discovery-write.Learnt (λ κs result exit. (result, exit.1.0.now))
 
 abbrev pub Tight-discovery-read : Type 0
-Tight-discovery-read = Tight {Left = Discovered} discovery-read.Asked discovery-read.Learnt (λ κs result exit. result)
+Tight-discovery-read = Tight {Left = Result Discovered Refusal} discovery-read.Asked discovery-read.Learnt (λ κs result exit. result)
 
 abbrev pub Tight-ttlv-item-at : Type 0
-Tight-ttlv-item-at = Tight {Left = Front} ttlv-item-at.Asked ttlv-item-at.Learnt (λ κs result exit. result)
+Tight-ttlv-item-at = Tight {Left = Option Front} ttlv-item-at.Asked ttlv-item-at.Learnt (λ κs result exit. result)
 
 abbrev pub Tight-ttlv-sound : Type 0
 Tight-ttlv-sound = Tight {Left = Bool} ttlv-sound.Asked ttlv-sound.Learnt (λ κs result exit. result)
 
 abbrev pub Tight-ttlv-read : Type 0
-Tight-ttlv-read = Tight {Left = ListRead × List ℕ} ttlv-read.Asked ttlv-read.Learnt (λ κs result exit. (result, exit.1.0.now))
+Tight-ttlv-read = Tight {Left = Result ℕ NotListed × List ℕ} ttlv-read.Asked ttlv-read.Learnt (λ κs result exit. (result, exit.1.0.now))
 
 abbrev pub Tight-ttlv-write : Type 0
-Tight-ttlv-write = Tight {Left = Written × List ℕ} ttlv-write.Asked ttlv-write.Learnt (λ κs result exit. (result, exit.1.1.1.0.now))
+Tight-ttlv-write = Tight {Left = Result ℕ NotWritten × List ℕ} ttlv-write.Asked ttlv-write.Learnt (λ κs result exit. (result, exit.1.1.1.0.now))
 
 abbrev pub Tight-kmip-read : Type 0
-Tight-kmip-read = Tight {Left = MessageRead × List ℕ} kmip-read.Asked kmip-read.Learnt (λ κs result exit. (result, exit.1.1.1.0.now))
+Tight-kmip-read = Tight {Left = Result ℕ NotRead × List ℕ} kmip-read.Asked kmip-read.Learnt (λ κs result exit. (result, exit.1.1.1.0.now))
 
 abbrev pub Tight-kmip-write : Type 0
 Tight-kmip-write =
-    Tight {Left = MessageWritten × List ℕ} kmip-write.Asked kmip-write.Learnt (λ κs result exit. (result, exit.1.1.1.1.0.now))
+    Tight {Left = Result ℕ NotSent × List ℕ} kmip-write.Asked kmip-write.Learnt (λ κs result exit. (result, exit.1.1.1.1.0.now))
 
 abbrev pub Tight-digits-read-line : Type 0
-Tight-digits-read-line = Tight {Left = LineRead × List ℕ} digits-read-line.Asked digits-read-line.Learnt (λ κs result exit. (result, exit.1.0.now))
+Tight-digits-read-line = Tight {Left = Result ℕ BadLine × List ℕ} digits-read-line.Asked digits-read-line.Learnt (λ κs result exit. (result, exit.1.0.now))
 
 abbrev pub Tight-digits-number : Type 0
 Tight-digits-number = Tight {Left = ℕ} digits_number.Asked digits_number.Learnt (λ κs result exit. result)
@@ -208,7 +208,7 @@ Tight-digits-write-answer = Tight {Left = ℕ × List ℕ} digits-write-answer.A
 
 abbrev pub Tight-frames-read : Type 0
 Tight-frames-read =
-    Tight {Left = FrameRead × (List ℕ × List ℕ)} frames-read.Asked frames-read.Learnt
+    Tight {Left = Result FrameRead Refusal × (List ℕ × List ℕ)} frames-read.Asked frames-read.Learnt
     (λ κs result exit. (result, (exit.1.0.now, exit.1.1.0.now)))
 
 abbrev pub Tight-slots-loaded : Type 0
@@ -248,7 +248,7 @@ abbrev pub Tight-marks-zero-namespace : Type 0
 Tight-marks-zero-namespace = Tight {Left = List ℕ} marks-zero-namespace.Asked marks-zero-namespace.Learnt (λ κs result exit. exit.0.now)
 
 abbrev pub Tight-locks-decide : Type 0
-Tight-locks-decide = Tight {Left = Changed} locks-decide.Asked locks-decide.Learnt (λ κs result exit. result)
+Tight-locks-decide = Tight {Left = Result BootLocks Refusal} locks-decide.Asked locks-decide.Learnt (λ κs result exit. result)
 
 abbrev pub Tight-locks-shown : Type 0
 Tight-locks-shown = Tight {Left = ℕ} locks-shown.Asked locks-shown.Learnt (λ κs result exit. result)
@@ -277,7 +277,7 @@ Tight-locks-set-locks =
     contract w = set-locks.clauses w.𝓛 w.𝓜.mem w.𝓡.run
 
 abbrev pub Tight-locks-set-features : Type 0
-Tight-locks-set-features = Tight {Left = Changed} locks-set-features.Asked locks-set-features.Learnt (λ κs result exit. result)
+Tight-locks-set-features = Tight {Left = Result BootLocks Refusal} locks-set-features.Asked locks-set-features.Learnt (λ κs result exit. result)
 
 abbrev pub Tight-drive-start : Type 0
 Tight-drive-start =
