@@ -16,7 +16,8 @@ use Rattle.cells.specs.Cells.{part}
 use Rattle.cells.proofs.CellsLaws.{grow}
 use Rattle.rules.specs.AesBytes.{◌⊕◌}
 use Rattle.aes.specs.Words.{word4, word_at}
-use Rattle.aes.specs.ByTables.{mirrored, key_at, round_of, last_of, rounds_with, ciphered, rounds_by, back_by, cipher_by, inv_cipher_by, words_of, turned_by, expanded_by, unmixed_word, unmixed_by}
+use Rattle.aes.specs.ByTables.{mirrored, key_at, round_of, last_of, rounds_with, ciphered, rounds_by, back_by, cipher_by, inv_cipher_by}
+use Rattle.aes.specs.ByTables.{words_of, turned_by, expanded_by, unmixed_word, unmixed_by}
 use Rattle.aes.specs.declared.Block.{Block}
 use Rattle.aes.proofs.WordsLaws.{from_bytes}
 use Rattle.aes.proofs.ExpandingLaws.{words_length, words_more}

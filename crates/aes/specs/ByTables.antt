@@ -1,7 +1,8 @@
 -- The cipher by look-ups, over any tables: what the code does with those that it
 -- is lent. With the right ones it is FIPS 197's (proofs/CipherLaws.antt).
 -- Assumes nothing.
-use Rattle.std.specs.Prelude.{cond, List, [], ◌∷◌, ◌++◌, map, ℕ, zero, suc, ◌+◌, ◌-◌, ◌*◌, ◌≤◌, ◌≡◌, ◌/◌, ◌%◌, get_or, take, drop, eqb}
+use Rattle.std.specs.Prelude.{cond, List, [], ◌∷◌, ◌++◌, map, ℕ, zero, suc, ◌+◌, ◌-◌, ◌*◌, ◌/◌, ◌%◌, get_or, take, drop, eqb}
+use Rattle.std.specs.Prelude.{◌≡◌, ◌≤◌}
 use Rattle.cells.specs.Cells.{part}
 use Rattle.rules.specs.AesBytes.{◌⊕◌}
 use Rattle.rules.specs.Aes.{round_constants}

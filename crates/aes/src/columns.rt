@@ -76,6 +76,7 @@ impl Block {
     }
 
     // Each column made of a diagonal: a byte of each column, from one place on.
+    // (c) the four words go to `column` one by one, since no clause is inferred for a closure that takes a `[u8; 4]`
     fn by_diagonals<F: Fn(u32, u32, u32, u32) -> u32>(self, column: F) -> Block
         requires { F.IsAlwaysCallable column }
         ensures a { F.post column self.a self.b self.c self.d result.a }

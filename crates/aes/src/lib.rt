@@ -33,6 +33,7 @@ pub struct Block {
 pub const SCHEDULE: usize = 60;
 
 // The substitution, its inverse, and both with the mixing.
+// (a) four functions: the record `Defined` of `promises`, and a theorem `Tight-aes-..` for each, have them by name
 pub fn sub_table() -> [u8; 256]
     ensures { result ≡ sbox }
 {

@@ -50,6 +50,7 @@ fn seal(kek: &[u8], bytes: &mut [u8], w: &mut [u32; SCHEDULE])
 }
 
 // The steps back, then the integrity value is looked at.
+// (d) beside `seal`: the two share the test of the sizes, and a closure for the rest would hide their steps
 fn unseal(kek: &[u8], bytes: &mut [u8], w: &mut [u32; SCHEDULE]) -> bool
     ensures { record { opened = result; bytes = bytes.new } ≡ opened_in kek.now bytes.old }
 {

@@ -62,6 +62,7 @@ fn wrap_steps<F: Fn(Block) -> Block>(cipher: F, bytes: &mut [u8; WRAPPED_SIZE])
     }
 }
 
+// (d) beside `wrap_steps`: the order and the place of the counter are all that either says
 fn unwrap_steps<F: Fn(Block) -> Block>(inverse: F, bytes: &mut [u8; WRAPPED_SIZE])
     requires { F.IsAlwaysCallable inverse }
     ensures { (f : BlockOf → BlockOf) → Computes (F.post inverse) f → bytes.new ≡ unwrap_steps_by f 24 bytes.old }

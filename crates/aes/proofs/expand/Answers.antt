@@ -14,5 +14,7 @@ returns-in-Some c =
     let key = c.args.key.now in
     let w = c.args.w.now in
     let whole = c.in-Some.ensures.cases in
-    let first = ap (take 8) (c.first_words.ensures ∙ ap (λ k. words_of k 8 ++ drop 8 w) whole.same) ∙ take_at (words_of key 8) (drop 8 w) 8 (words_length key 8) in
+    let first =
+    ap (take 8) (c.first_words.ensures ∙ ap (λ k. words_of k 8 ++ drop 8 w) whole.same)
+    ∙ take_at (words_of key 8) (drop 8 w) 8 (words_length key 8) in
     c.next_words.ensures ∙ ap₂ (λ b l. expanded_by b l 52) c.sub_table.ensures first ∙ (rw (eq-eqb (length key) 32 whole.long))

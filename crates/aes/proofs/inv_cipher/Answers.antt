@@ -16,7 +16,8 @@ returns c =
     let key = c.args.key.now in
     let s = c.args.block in
     let fit : Fit s = record { a = search rules; b = search rules; c = search rules; d = search rules } in
-    let told : length key ≡ 32 → c.keyed.result ≡ inv_cipher_by inv_mix_table inv_sbox (unmixed_by inv_mix_table sbox (expanded_by sbox (words_of key 8) 52)) s =
+    let told : length key ≡ 32
+    → c.keyed.result ≡ inv_cipher_by inv_mix_table inv_sbox (unmixed_by inv_mix_table sbox (expanded_by sbox (words_of key 8) 52)) s =
     λ e.
     let h = (c.keyed.ensures.told e).1 in
     let run : c.keyed.result ≡ inv_cipher_by inv_mix_table inv_sbox (unmixed_by inv_mix_table sbox h.shown.now) s = search rules in
