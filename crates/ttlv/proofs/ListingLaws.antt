@@ -18,7 +18,7 @@ use Rattle.ttlv.specs.declared.walk.Walk.{Walk}
 use Rattle.ttlv.specs.declared.walk.Found.{Found}
 use Rattle.ttlv.specs.ItemList.{is_some, list_at, list_of, join}
 use Rattle.ttlv.specs.Between.{Onward, rest}
-use Rattle.ttlv.specs.Walking.{Starts, NumbersFit, left, item_of}
+use Rattle.ttlv.specs.Walking.{Starts, left, item_of}
 use Rattle.ttlv.specs.Listing.{Reading, item_places, items_most, message_most, numbers_of, all_numbers, laid, read_list}
 use Rattle.ttlv.specs.Places.{Listable, Laid}
 use Rattle.ttlv.proofs.ListLaws.{one, join_assoc, join_empty, empty_join}
@@ -99,14 +99,6 @@ module _ {xs places now : List ℕ} {w : Walk} {count : ℕ} (g : Listable xs pl
 
   module _ (m : Walk) (i : Found) (over : m.bytes.now ≡ w.bytes.now)
       (on : Onward w.bytes.now w.ends w.levels w.at (item_of i) m.ends m.levels m.at) where
-    pub found_fits : NumbersFit (item_of i)
-    found_fits =
-        let d = on.depth_fits in
-        let n = on.inside in
-        let o = ap length f.over in
-        let s = g.short in
-        record { depth_fits = omega arith; start_fits = omega arith; length_fits = omega arith }
-
     -- from the first place that is free
     pub found_room : item_places * count + item_places ≤ length now
     found_room =

@@ -40,7 +40,6 @@ pub record Starts (xs : List ℕ) (w : Walk) : Type 0 where
 -- the same is left, and no structure ends here
 pub record Closed (w now : Walk) : Type 0 where
   pub over : now.bytes.now ≡ w.bytes.now
-  pub ends_stay : now.ends ≡ w.ends
   pub at_stays : now.at ≡ w.at
   pub left_stays : left now ≡ left w
   pub all_closed : now.levels ≡ 0 ⊎ (now.at ≡ get_or now.ends (now.levels - 1) 0 → ⊥)

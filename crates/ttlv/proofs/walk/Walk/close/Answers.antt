@@ -12,4 +12,4 @@ invariant_of-self c =
 pub loop-self-preserved : goal.loop-self-preserved
 loop-self-preserved c =
     let i = c.loop-self.invariant in
-    (i.0, i.1, i.2, close_rest (walk_between c.loop-self.self) c.loop-self-test.true (sym c.if-self.true) ∙ i.3)
+    (i.0, i.1, close_rest (walk_between c.loop-self.self) c.loop-self-test.true (sym c.if-self.true) ∙ i.2)
