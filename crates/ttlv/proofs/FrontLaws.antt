@@ -16,7 +16,7 @@ use Rattle.cells.specs.Predicates.{all_zero}
 use Rattle.cells.proofs.CellsLaws.{length_part, part_three, part_four}
 use Rattle.std.proofs.lemmas.List.{get_or-take}
 use Rattle.std.specs.Bool.{then_some}
-use Rattle.cells.proofs.PredicatesLaws.{and_left, and_right}
+use Rattle.cells.proofs.PredicatesLaws.{and_left, and_right, to_false}
 use Rattle.rules.specs.Ttlv.{Structure, item_head, to_eight, is_value, no_item, a_value, a_structure, front_of, front}
 use Rattle.rules.specs.Ttlv as ttlv
 use Rattle.rules.specs.Fields.{byte, big, big_endian}
@@ -52,17 +52,6 @@ take_part n a m xs h = take-take n m (drop a xs) h
 pub to_eight_is : (n r : ℕ) → n ≤ r → r < n + 8 → r % 8 ≡ 0 → r ≡ to_eight n
 to_eight_is n r l m z = omega arith
 
--- it is not there
-pub past_whole : (n whole m : ℕ) → whole ≡ to_eight n → (whole < n) ⊎ (m < whole) → m < to_eight n
-past_whole n whole m e (inl l) = absurd (omega arith)
-past_whole n whole m e (inr l) = omega arith
-
--- it is, as it is lent
-pub lent_padding : (n whole : ℕ) (behind padding : List ℕ) → whole ≡ to_eight n → padding ≡ take (whole - n) (drop n behind)
-    → padding ≡ part n (to_eight n - n) behind
-unfolding part
-lent_padding n whole behind padding e p = p ∙ ap (λ w. take (w - n) (drop n behind)) e
-
 -- ------------------------------------------------------------------------
 -- The front of a run that starts at `at`, by what a reading of its head gave
 
@@ -86,53 +75,70 @@ pub short_none : (at : ℕ) (run : List ℕ) → length run < item_head → None
 unfolding front placed
 short_none at run h = rw (lt-leb item_head (length run) h)
 
-module _ (at tag kind n : ℕ) (behind : List ℕ) where
-  abbrev pub found : Option Front
-  found = placed at (front_of tag kind n behind)
+-- the head was read, and so much is behind it
+pub record HeadRead (run behind : List ℕ) (h : Head) : Type 0 where
+  pub is : front run ≡ front_of h.tag h.kind h.length behind
 
-  pub structure_found : kind ≡ Structure → then_some (leb n (length behind)) (places.Structure tag n) ≡ found
+pub head_read : (run head behind : List ℕ) (h : Head) → Headed head h
+    → (head ≡ take item_head run) × (behind ≡ drop item_head run) × (length behind + item_head ≡ length run) → HeadRead run behind h
+head_read run head behind h i cut =
+    let l = cut.2 in
+    record { is = headed_front run head h (omega arith) cut.0 i ∙ ap (front_of h.tag h.kind h.length) (sym cut.1) }
+
+module _ {run behind : List ℕ} {h : Head} (r : HeadRead run behind h) (at : ℕ) where
+  abbrev n : ℕ
+  n = h.length
+
+  by_front : {o : Option Front} → o ≡ placed at (front_of h.tag h.kind n behind) → o ≡ placed at (front run)
+  by_front e = e ∙ sym (ap (placed at) r.is)
+
+  pub structure_read : h.kind ≡ Structure → then_some (leb n (length behind)) (places.Structure h.tag n) ≡ placed at (front run)
   unfolding front_of placed
-  structure_found e =
+  structure_read e =
       let b = leb n (length behind) in
-      rw (eq-eqb kind Structure e)
-      (on_cond (λ f. then_some b (places.Structure tag n) ≡ placed at f) b _ _
+      by_front
+      (rw (eq-eqb h.kind Structure e)
+      (on_cond (λ f. then_some b (places.Structure h.tag n) ≡ placed at f) b _ _
       (λ t. rw (t, length-take-le n behind (leb-true n (length behind) t)))
-      (λ f. rw f))
+      (λ f. rw f)))
 
   abbrev clean : Bool
   clean = all_zero (part n (to_eight n - n) behind)
 
   abbrev valued : Bool
-  valued = is_value kind n && leb (to_eight n) (length behind) && clean
+  valued = is_value h.kind n && leb (to_eight n) (length behind) && clean
 
-  module _ (e : kind ≡ Structure → ⊥) where
-    pub wide_none : length behind < to_eight n → found ≡ None
+  module _ (e : h.kind ≡ Structure → ⊥) where
+    no_value : valued ≡ false → None ≡ placed at (front run)
     unfolding front_of placed
-    wide_none h =
-        rw (ne_eqb kind Structure e)
-        (on_cond (λ f. placed at f ≡ None) valued _ _
-        (λ t. let l = leb-true (to_eight n) (length behind) (and_right (is_value kind n) _ (and_left _ clean t)) in absurd (omega arith))
-        (λ f. refl))
+    no_value f = by_front (rw (ne_eqb h.kind Structure e, f))
 
-    pub unvalued_none : is_value kind n ≡ false → found ≡ None
-    unfolding front_of placed
-    unvalued_none v = rw (ne_eqb kind Structure e, v)
+    pub unvalued_read : is_value h.kind n ≡ false → None ≡ placed at (front run)
+    unvalued_read v = no_value (rw v)
 
-    pub unclean_none : all_zero (part n (to_eight n - n) behind) ≡ false → found ≡ None
-    unfolding front_of placed
-    unclean_none z =
-        rw (ne_eqb kind Structure e)
-        (on_cond (λ f. placed at f ≡ None) valued _ _ (λ t. absurd (true≢false (sym (and_right _ clean t) ∙ z))) (λ f. refl))
+    module _ (whole : ℕ) (w : whole ≡ to_eight n) where
+      -- the padding is not there
+      pub past_read : (whole < n) ⊎ (length behind < whole) → None ≡ placed at (front run)
+      past_read (inl l) = absurd (omega arith)
+      past_read (inr l) =
+          let fits = λ (t : valued ≡ true). leb-true (to_eight n) (length behind) (and_right (is_value h.kind n) _ (and_left _ clean t)) in
+          no_value (sym (to_false valued (λ t. let m = fits t in omega arith)))
 
-    pub value_found : is_value kind n ≡ true → to_eight n ≤ length behind → all_zero (part n (to_eight n - n) behind) ≡ true
-        → found ≡ Some (Value tag kind n (at + item_head + to_eight n))
-    unfolding front_of placed
-    value_found v h z = rw (ne_eqb kind Structure e, v, le-leb (to_eight n) (length behind) h, z, length-take-le n behind (omega arith))
+      module _ (padding : List ℕ) (p : padding ≡ take (whole - n) (drop n behind)) where
+        padding_is : padding ≡ part n (to_eight n - n) behind
+        unfolding part
+        padding_is = p ∙ ap (λ k. take (k - n) (drop n behind)) w
 
-pub found_is : (at : ℕ) (run head behind : List ℕ) (h : Head) → Headed head h → head ≡ take item_head run → behind ≡ drop item_head run
-    → length behind + item_head ≡ length run → found at h.tag h.kind h.length behind ≡ placed at (front run)
-found_is at run head behind h i eh eb l =
-    ap (λ b. placed at (front_of h.tag h.kind h.length b)) eb ∙ sym (ap (placed at) (headed_front run head h (omega arith) eh i))
+        pub unclean_read : all_zero padding ≡ false → None ≡ placed at (front run)
+        unclean_read z = no_value (sym (to_false valued (λ t. true≢false (sym (and_right _ clean t) ∙ sym (ap all_zero padding_is) ∙ z))))
+
+        pub value_read : is_value h.kind n ≡ true → whole ≤ length behind → all_zero padding ≡ true
+            → Some (Value h.tag h.kind n (at + item_head + whole)) ≡ placed at (front run)
+        unfolding front_of placed
+        value_read v l z =
+            let c : clean ≡ true = sym (ap all_zero padding_is) ∙ z in
+            by_front
+            (rw (ne_eqb h.kind Structure e, v, le-leb (to_eight n) (length behind) (omega arith), c, length-take-le n behind (omega arith), w))
 
 -- ------------------------------------------------------------------------
 -- The front of the run from `at` to `end`
@@ -211,5 +217,6 @@ item_none xs at end (inr past) =
     (λ f. refl)
 
 -- by what was found there
-pub found_fronted : (xs : List ℕ) (at end : ℕ) → at ≤ end → end ≤ length xs → (r : Option Front) → r ≡ item_at xs at end → Fronted xs at end r
+pub found_fronted : (xs : List ℕ) (at end : ℕ) → at ≤ end → end ≤ length xs → (r : Option Front) → r ≡ item_at xs at end
+    → Fronted xs at end r
 found_fronted xs at end l m r e = rw (e ∙ item_there xs at end l m) (fronted xs at end l m)

@@ -8,8 +8,6 @@ use Prim.Native.Nat.{ℕ, ◌+◌, ◌<◌, ◌≤◌}
 use native.Mathlib.Numerals.{add-one}
 use lib.ListN.{length, drop, get_or, drop_of_length-le}
 use lib.Seq.{drop-cons}
-use borrow.Author.Tests.{eq-eqb, ne_eqb}
-use Rattle.rules.specs.Ttlv.{Structure}
 use Rattle.ttlv.specs.declared.Item.{Item}
 use Rattle.ttlv.specs.Listing.{first_item}
 use Rattle.ttlv.specs.Pieces.{items_of}
@@ -34,10 +32,3 @@ module _ (n most : ℕ) (left : List Item) where
 
   pub good_end : left ≡ [] → true ≡ good_from n most left
   good_end last = from_none n most ∙ ap (good_from n most) (sym last)
-
--- how deep the next item may stand
-pub behind_structure : (i : Item) → i.kind ≡ Structure → i.depth + 1 ≡ most_behind i
-behind_structure i e = add-one i.depth ∙ sym (rw (eq-eqb i.kind Structure e))
-
-pub behind_value : (i : Item) → (i.kind ≡ Structure → ⊥) → i.depth ≡ most_behind i
-behind_value i n = sym (rw (ne_eqb i.kind Structure n))

@@ -1,22 +1,17 @@
 -- The items of some numbers, one by one.
 -- Assumes nothing.
-use mathlib.Core.Path.{◌≡◌, refl, sym, ap, ◌∙◌}
+use mathlib.Core.Path.{◌≡◌, refl, ap, ◌∙◌}
 use mathlib.Core.List.{List, [], ◌∷◌, ◌++◌}
 use Prim.Native.Nat.{ℕ, zero, suc, ◌-◌, ◌*◌, ◌/◌, ◌<◌, ◌≤◌}
 use native.Mathlib.Omega.{arith}
 use lib.ListN.{length, take, drop, get_or}
 use lib.Seq.{length-take-le}
 use Rattle.std.specs.Simd.{first_chunks}
-use Rattle.std.proofs.lemmas.List.{get_or-take, length-map}
+use Rattle.std.proofs.lemmas.List.{get_or-take}
 use Rattle.ttlv.specs.declared.Item.{Item}
 use Rattle.ttlv.specs.Listing.{item_places, items_most, all_numbers, first_item, items_in}
 use Rattle.ttlv.specs.Pieces.{items_of, FirstItems}
 use Rattle.ttlv.proofs.FrontLaws.{drop_take}
-
-pub length_items : (n : ℕ) (ns : List ℕ) → length (items_in n ns) ≡ n
-unfolding items_in
-length_items zero ns = refl
-length_items (suc n) ns = ap suc (length_items n (drop item_places ns))
 
 first_take : (m : ℕ) (ns : List ℕ) → item_places ≤ m → first_item (take m ns) ≡ first_item ns
 first_take m ns h =
@@ -50,10 +45,7 @@ arrays_items n ns given arrays few there lent is =
     ∙ ap (items_in n) cut
     ∙ items_take n (item_places * n) ns (omega arith)
     in
-    record { few = few; there = there; items = items; so_many = sym (length-map arrays first_item) ∙ ap length items ∙ length_items n ns }
-
-pub few_items : {n : ℕ} {ns : List ℕ} {arrays : List (List ℕ)} → FirstItems n ns arrays → length (items_of arrays) ≤ items_most
-few_items {n} {ns} {arrays} f = omega (arith, f.few, f.so_many, length-map arrays first_item)
+    record { few = few; there = there; items = items }
 
 -- the numbers of a list are taken for that list, whatever stands behind them
 pub numbers_back : (is : List Item) (rest : List ℕ) → items_in (length is) (all_numbers is ++ rest) ≡ is

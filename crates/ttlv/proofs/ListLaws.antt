@@ -79,11 +79,6 @@ unfolding join
 empty_join none = refl
 empty_join (some a) = ap some (append-nil a)
 
-pub join_none : (o : Option (List Item)) → join o none ≡ none
-unfolding join
-join_none none = refl
-join_none (some a) = refl
-
 pub list_none : (d at : ℕ) → list_at d at [] ≡ some []
 unfolding list_at list_of listed read_at read_by
 list_none d at = refl

@@ -17,7 +17,8 @@ use Rattle.ttlv.specs.declared.ReadError.TheVariants.{NoPlaces, NoItems}
 use Rattle.ttlv.specs.declared.walk.Walk.{Walk}
 use Rattle.ttlv.specs.declared.walk.Found.{Found}
 use Rattle.ttlv.specs.ItemList.{is_some, list_at, list_of, join}
-use Rattle.ttlv.specs.Walking.{Open, Onward, Starts, NumbersFit, left, rest, item_of}
+use Rattle.ttlv.specs.Between.{Onward, rest}
+use Rattle.ttlv.specs.Walking.{Starts, left, item_of}
 use Rattle.ttlv.specs.Listing.{Reading, item_places, items_most, message_most, numbers_of, all_numbers, laid, read_list}
 use Rattle.ttlv.specs.Places.{Listable, Laid}
 use Rattle.ttlv.proofs.ListLaws.{one, join_assoc, join_empty, empty_join}
@@ -64,7 +65,6 @@ laid_more places now r done i count n h l e =
 pub record Filling (xs places now : List ℕ) (w : Walk) (count : ℕ) : Type 0 where
   pub done : List Item
   pub over : w.bytes.now ≡ xs
-  pub open_so : Open w
   pub room : item_head * length done ≤ w.at
   pub whole : join (some done) (left w) ≡ list_at 1 0 xs
   pub counted : count ≡ length done
@@ -73,11 +73,11 @@ pub record Filling (xs places now : List ℕ) (w : Walk) (count : ℕ) : Type 0 
 pub fill_start : (xs places : List ℕ) (w : Walk) → Starts xs w → Filling xs places places w 0
 unfolding all_numbers
 fill_start xs places w s =
-    record { done = []; over = s.over; open_so = s.open_so; room = omega arith; whole = join_empty (left w) ∙ s.whole; counted = refl; laid_so = refl }
+    record { done = []; over = s.over; room = omega arith; whole = join_empty (left w) ∙ s.whole; counted = refl; laid_so = refl }
 
 module _ {xs places now : List ℕ} {w : Walk} {count : ℕ} (g : Listable xs places) (f : Filling xs places now w count) where
   fill_few : item_head * count ≤ message_most
-  fill_few = omega (arith, f.counted, f.room, f.open_so.inside, ap length f.over, g.short)
+  fill_few = omega (arith, f.counted, f.room, w.inside, ap length f.over, g.short)
 
   pub fill_length : length now ≡ length places
   fill_length =
@@ -99,18 +99,10 @@ module _ {xs places now : List ℕ} {w : Walk} {count : ℕ} (g : Listable xs pl
 
   module _ (m : Walk) (i : Found) (over : m.bytes.now ≡ w.bytes.now)
       (on : Onward w.bytes.now w.ends w.levels w.at (item_of i) m.ends m.levels m.at) where
-    pub found_fits : NumbersFit (item_of i)
-    found_fits =
-        let d = on.depth_fits in
-        let n = on.inside in
-        let o = ap length f.over in
-        let s = g.short in
-        record { depth_fits = omega arith; start_fits = omega arith; length_fits = omega arith }
-
     -- from the first place that is free
     pub found_room : item_places * count + item_places ≤ length now
     found_room =
-        omega (arith, fill_length, f.room, f.counted, on.on, on.between.inside, ap length f.over, g.short, g.enough)
+        omega (arith, fill_length, f.room, f.counted, on.on, m.inside, ap length over, ap length f.over, g.short, g.enough)
 
     pub found_more : (r : List ℕ) → r ≡ numbers_of (item_of i)
         → let from = item_places * count in
@@ -120,7 +112,6 @@ module _ {xs places now : List ℕ} {w : Walk} {count : ℕ} (g : Listable xs pl
         record {
           done = f.done ++ item_of i ∷ [];
           over = over ∙ f.over;
-          open_so = rw over on.between;
           room = omega (arith, longer, f.room, on.on);
           whole =
               push f.done (item_of i) (left m)

@@ -8,7 +8,6 @@ use native.Mathlib.Omega.{arith}
 use lib.ListN.{length, take}
 use lib.Dec.{leb, ltb}
 use Rattle.std.specs.List.{sum, position, position_or_len}
-use Rattle.std.proofs.lemmas.List.{length-map}
 use Rattle.std.specs.Option.{unwrap_or}
 use Rattle.std.specs.Prelude.{Some, None}
 use Rattle.rules.proofs.TtlvFrontLaws.{on_cond}
@@ -18,7 +17,7 @@ use Rattle.ttlv.specs.Pieces.{items_of}
 use borrow.Author.Tests.{lt-leb, le-leb, ltb-false}
 use mathlib.Core.Logic.{by_cases}
 use native.Mathlib.Decide.{dec_lt}
-use Rattle.ttlv.proofs.TreeLaws.{length_split, room_split, deeper_more, deeper_none, deeper_nil}
+use Rattle.ttlv.proofs.TreeLaws.{room_split, deeper_more, deeper_none, deeper_nil}
 use Rattle.ttlv.specs.Writing.{deeper, room_of, room_for}
 
 pub rooms_sum : (arrays : List (List ℕ)) → sum (map (λ ns. room_of (first_item ns)) arrays) ≡ room_for (items_of arrays)
@@ -54,16 +53,6 @@ deeper_take d arrays =
     ap (λ j. items_of (take j arrays)) there ∙ deeper_prefix d arrays
 
 -- the deeper items are some of them
-module _ (d : ℕ) (arrays members : List (List ℕ)) (m : items_of members ≡ deeper d (items_of arrays)) where
-  pub members_few : length members ≤ length arrays
-  members_few =
-      omega (
-        arith,
-        length_split d (items_of arrays),
-        ap length m,
-        length-map members first_item,
-        length-map arrays first_item,
-      )
-
-  pub members_room : room_for (items_of members) ≤ room_for (items_of arrays)
-  members_room = omega (arith, room_split d (items_of arrays), ap room_for m)
+pub members_room : (d : ℕ) (arrays members : List (List ℕ)) → items_of members ≡ deeper d (items_of arrays)
+    → room_for (items_of members) ≤ room_for (items_of arrays)
+members_room d arrays members m = omega (arith, room_split d (items_of arrays), ap room_for m)

@@ -6,7 +6,7 @@ use mathlib.Core.Option.{Option, none, some}
 use Prim.Native.Nat.{ℕ, zero, suc, ◌+◌, ◌-◌, ◌<◌, ◌≤◌}
 use native.Mathlib.Omega.{arith}
 use native.Mathlib.Numerals.{add-one}
-use lib.ListN.{length, take, drop, get_or, set, length-set}
+use lib.ListN.{length, take, drop, get_or, set}
 use lib.Seq.{get_or-set_same, get_or-set_other, take-length}
 use Rattle.cells.specs.Cells.{part}
 use Rattle.cells.proofs.CellsLaws.{length_part}
@@ -20,7 +20,8 @@ use Rattle.std.specs.Prelude as places
 use Rattle.ttlv.specs.declared.Front.{Front}
 use Rattle.ttlv.specs.Reading.{Fronted, item_at}
 use Rattle.ttlv.proofs.FrontLaws.{found_fronted}
-use Rattle.ttlv.specs.Walking.{Open, rest, left, Nested, Between, Onward, Starts, Closed}
+use Rattle.ttlv.specs.Between.{rest, Nested, Between, Onward}
+use Rattle.ttlv.specs.Walking.{left, Starts, Closed}
 use Rattle.ttlv.specs.declared.walk.Walk.{Walk}
 use mathlib.Core.Logic.{inl, inr}
 use Rattle.ttlv.proofs.ListLaws.{one, join_assoc, join_empty, empty_join, list_none, list_deep, list_broken, list_value, list_structure}
@@ -41,12 +42,13 @@ module _ (xs ends : List ℕ) where
       let t : get_or ends k 0 ≡ end = ap (λ j. get_or ends j 0) (sym s) ∙ e in
       rest_suc k at ∙ rw (t, s)
 
-  nested_suc : (k at : ℕ) → Nested xs ends (suc k) at → (at ≤ get_or ends k 0) × (get_or ends k 0 ≤ length xs) × Nested xs ends k (get_or ends k 0)
+  nested_suc : (k at : ℕ) → Nested xs ends (suc k) at
+      → (at ≤ get_or ends k 0) × ((get_or ends k 0 ≤ length xs) × Nested xs ends k (get_or ends k 0))
   unfolding Nested
   nested_suc k at n = n
 
   nested_top : (levels at : ℕ) → 0 < levels → Nested xs ends levels at
-      → (at ≤ get_or ends (levels - 1) 0) × (get_or ends (levels - 1) 0 ≤ length xs) × Nested xs ends (levels - 1) (get_or ends (levels - 1) 0)
+      → (at ≤ get_or ends (levels - 1) 0) × ((get_or ends (levels - 1) 0 ≤ length xs) × Nested xs ends (levels - 1) (get_or ends (levels - 1) 0))
   nested_top zero at h n = absurd (omega arith)
   nested_top (suc k) at h n = let s : suc k - 1 ≡ k = omega arith in rw s (nested_suc k at n)
 
@@ -54,7 +56,7 @@ module _ (xs ends : List ℕ) where
   nested_on : (levels at next : ℕ) → 0 < levels → next ≤ get_or ends (levels - 1) 0 → Nested xs ends levels at → Nested xs ends levels next
   unfolding Nested
   nested_on zero at next h l n = absurd (omega arith)
-  nested_on (suc k) at next h l n = let s : suc k - 1 ≡ k = omega arith in (rw s at l, n.1, n.2)
+  nested_on (suc k) at next h l n = let s : suc k - 1 ≡ k = omega arith in (rw s at l, n.1)
 
   -- a store past the open levels is not seen
   rest_set : (j k v at : ℕ) → j ≤ k → rest xs (set ends k v) j at ≡ rest xs ends j at
@@ -69,21 +71,21 @@ module _ (xs ends : List ℕ) where
   nested_set zero k v at h n = tt
   nested_set (suc j) k v at h n =
       let e : get_or (set ends k v) j 0 ≡ get_or ends j 0 = get_or-set_other ends k j v 0 (omega arith) in
-      rw e (n.0, n.1, nested_set j k v (get_or ends j 0) (omega arith) n.2)
+      rw e (n.0, (n.1.0, nested_set j k v (get_or ends j 0) (omega arith) n.1.1))
 
   -- one level more
   nested_more : (k v at : ℕ) → k < length ends → at ≤ v → v ≤ length xs → Nested xs ends k v → Nested xs (set ends k v) (suc k) at
   unfolding Nested
   nested_more k v at h l m n =
       let e : get_or (set ends k v) k 0 ≡ v = get_or-set_same ends k v 0 h in
-      rw e (l, m, nested_set k k v v (omega arith) n)
+      rw e (l, (m, nested_set k k v v (omega arith) n))
 
 -- ------------------------------------------------------------------------
 -- The steps
 
-pub walk_start : (xs ends : List ℕ) → get_or ends 0 0 ≡ length xs → length ends ≡ suc deepest → Between xs ends 1 0
+pub nested_start : (xs ends : List ℕ) → get_or ends 0 0 ≡ length xs → Nested xs ends 1 0
 unfolding Nested
-walk_start xs ends e l = record { inside = omega arith; few = omega arith; nested = (omega arith, omega arith, tt); spaces = l }
+nested_start xs ends e = (omega arith, (omega arith, tt))
 
 -- the bytes are still to be read
 pub start_whole : (xs ends : List ℕ) → get_or ends 0 0 ≡ length xs → rest xs ends 1 0 ≡ list_at 1 0 xs
@@ -106,14 +108,14 @@ module _ {xs ends : List ℕ} {levels at : ℕ} (o : Between xs ends levels at) 
   abbrev outer : Option (List Item)
   outer = rest xs ends (levels - 1) end
 
-  pub at_end : at ≤ end
+  at_end : at ≤ end
   at_end = (nested_top xs ends levels at l o.nested).0
 
-  pub end_inside : end ≤ length xs
-  end_inside = (nested_top xs ends levels at l o.nested).1
+  end_inside : end ≤ length xs
+  end_inside = (nested_top xs ends levels at l o.nested).1.0
 
   -- what was found here
-  pub found_here : (r : places.Option Front) → r ≡ item_at xs at end → Fronted xs at end r
+  found_here : (r : places.Option Front) → r ≡ item_at xs at end → Fronted xs at end r
   found_here r e = found_fronted xs at end at_end end_inside r e
 
   run_length : length run ≡ end - at
@@ -136,8 +138,7 @@ module _ {xs ends : List ℕ} {levels at : ℕ} (o : Between xs ends levels at) 
       record {
         inside = o.inside;
         few = omega arith;
-        nested = rw (ap (Nested xs ends (levels - 1)) e) (nested_top xs ends levels at l o.nested).2;
-        spaces = o.spaces;
+        nested = rw (ap (Nested xs ends (levels - 1)) e) (nested_top xs ends levels at l o.nested).1.1;
       }
 
   pub close_rest : at ≡ end → rest xs ends (levels - 1) at ≡ rest xs ends levels at
@@ -154,14 +155,14 @@ module _ {xs ends : List ℕ} {levels at : ℕ} (o : Between xs ends levels at) 
   none_left n = top ∙ ap (λ r. join r outer) n
 
   module _ (ne : at ≡ end → ⊥) where
-    pub deep_left : deepest < levels → rest xs ends levels at ≡ none
+    deep_left : deepest < levels → rest xs ends levels at ≡ none
     deep_left h = none_left (list_deep levels at run (run_some ne) h)
 
     module _ (h : levels ≤ deepest) where
-      pub broken_left : Fronted xs at end None → rest xs ends levels at ≡ none
+      broken_left : Fronted xs at end None → rest xs ends levels at ≡ none
       broken_left f = none_left (list_broken levels at run (run_some ne) h f.is)
 
-      pub value_on : (tag kind n next : ℕ) → Fronted xs at end (Some (Value tag kind n next))
+      value_on : (tag kind n next : ℕ) → Fronted xs at end (Some (Value tag kind n next))
           → Onward xs ends levels at (item tag kind levels (at + item_head) n) ends levels next
       value_on tag kind n next f =
           let a = at_end in
@@ -173,7 +174,6 @@ module _ {xs ends : List ℕ} {levels at : ℕ} (o : Between xs ends levels at) 
           let e : list_at levels at run ≡ join (one i) (list_at levels next (part next (end - next) xs)) =
           list_value levels at run (run_some ne) h tag kind (part (at + item_head) n xs) (part next (end - next) xs) f.is ∙ rw (ln, ← c) in
           record {
-            between = record { inside = omega arith; few = o.few; nested = nested_on xs ends levels at next l d o.nested; spaces = o.spaces };
             on = omega arith;
             depth_fits = h;
             inside = omega arith;
@@ -184,14 +184,32 @@ module _ {xs ends : List ℕ} {levels at : ℕ} (o : Between xs ends levels at) 
                 ∙ ap (join (one i)) (sym (rest_top xs ends levels next end l refl));
           }
 
-      pub structure_on : (tag n : ℕ) → Fronted xs at end (Some (Structure tag n))
+      value_between : (tag kind n next : ℕ) → Fronted xs at end (Some (Value tag kind n next)) → Between xs ends levels next
+      value_between tag kind n next f =
+          let b = end_inside in
+          let d = f.inside.1 in
+          record { inside = omega arith; few = o.few; nested = nested_on xs ends levels at next l d o.nested }
+
+      structure_between : (tag n : ℕ) → length ends ≡ suc deepest → Fronted xs at end (Some (Structure tag n))
+          → Between xs (set ends levels (at + item_head + n)) (levels + 1) (at + item_head)
+      structure_between tag n sp f =
+          let b = end_inside in
+          let d = f.inside in
+          let to = at + item_head + n in
+          let kept = nested_on xs ends levels at to l d o.nested in
+          record {
+            inside = omega arith;
+            few = omega arith;
+            nested = rw (add-one levels) (nested_more xs ends levels to (at + item_head) (omega arith) (omega arith) (omega arith) kept);
+          }
+
+      structure_on : (tag n : ℕ) → length ends ≡ suc deepest → Fronted xs at end (Some (Structure tag n))
           → Onward xs ends levels at (item tag ttlv.Structure levels (at + item_head) n)
           (set ends levels (at + item_head + n)) (levels + 1) (at + item_head)
-      structure_on tag n f =
+      structure_on tag n sp f =
           let a = at_end in
           let b = end_inside in
           let d = f.inside in
-          let sp = o.spaces in
           let i = item tag ttlv.Structure levels (at + item_head) n in
           let to = at + item_head + n in
           let ends' = set ends levels to in
@@ -208,12 +226,6 @@ module _ {xs ends : List ℕ} {levels at : ℕ} (o : Between xs ends levels at) 
           ∙ rw (s, w, add-one levels, rest_set xs ends levels levels to to (omega arith), rest_top xs ends levels to end l refl) in
           let kept = nested_on xs ends levels at to l d o.nested in
           record {
-            between = record {
-              inside = omega arith;
-              few = omega arith;
-              nested = rw (add-one levels) (nested_more xs ends levels to (at + item_head) (omega arith) (omega arith) (omega arith) kept);
-              spaces = length-set ends levels to ∙ sp;
-            };
             on = omega arith;
             depth_fits = h;
             inside = omega arith;
@@ -225,22 +237,60 @@ module _ {xs ends : List ℕ} {levels at : ℕ} (o : Between xs ends levels at) 
           }
 
 -- ------------------------------------------------------------------------
--- After the ends that were reached
+-- The walk itself
 
-module _ {w m : Walk} (c : Closed w m) where
-  pub not_closed : (m.levels ≡ 0 → ⊥) → m.at ≡ get_or m.ends (m.levels - 1) 0 → ⊥
-  not_closed n e = elim c.all_closed [ inl z ↦ n z | inr ne ↦ ne e ]
+pub walk_between : (w : Walk) → Between w.bytes.now w.ends w.levels w.at
+walk_between w = record { inside = w.inside; few = w.few; nested = w.nested }
 
-  pub onward_from : {ends' : List ℕ} {levels' at' : ℕ} {i : Item} → Onward m.bytes.now m.ends m.levels m.at i ends' levels' at'
+-- after the ends that were reached, with a structure still open
+module _ {w m : Walk} (c : Closed w m) (open_so : m.levels ≡ 0 → ⊥) where
+  some_level : 0 < m.levels
+  some_level = omega arith
+
+  abbrev next_end : ℕ
+  next_end = get_or m.ends (m.levels - 1) 0
+
+  not_closed : m.at ≡ next_end → ⊥
+  not_closed e = elim c.all_closed [ inl z ↦ open_so z | inr ne ↦ ne e ]
+
+  onward_from : {ends' : List ℕ} {levels' at' : ℕ} {i : Item} → Onward m.bytes.now m.ends m.levels m.at i ends' levels' at'
       → Onward w.bytes.now w.ends w.levels w.at i ends' levels' at'
   onward_from {ends'} {levels'} {at'} {i} n =
       record {
-        between = rw (← c.over) n.between;
         on = omega (arith, n.on, c.at_stays);
         depth_fits = n.depth_fits;
         inside = omega (arith, n.inside, ap length c.over);
         taken = sym c.left_stays ∙ n.taken ∙ ap (λ xs. join (one i) (rest xs ends' levels' at')) c.over;
       }
+
+  pub step_deep : deepest < m.levels → left w ≡ none
+  step_deep h = sym c.left_stays ∙ deep_left (walk_between m) some_level not_closed h
+
+  module _ (h : m.levels ≤ deepest) {r : places.Option Front} (found : r ≡ item_at m.bytes.now m.at next_end) where
+    front_so : {f : places.Option Front} → r ≡ f → Fronted m.bytes.now m.at next_end f
+    front_so {f} e = found_here (walk_between m) some_level f (sym e ∙ found)
+
+    pub step_broken : r ≡ None → left w ≡ none
+    step_broken e = sym c.left_stays ∙ broken_left (walk_between m) some_level not_closed h (front_so e)
+
+    module _ {tag kind n next : ℕ} (e : r ≡ Some (Value tag kind n next)) where
+      pub step_value : Onward w.bytes.now w.ends w.levels w.at (item tag kind m.levels (m.at + item_head) n) m.ends m.levels next
+      step_value = onward_from (value_on (walk_between m) some_level not_closed h tag kind n next (front_so e))
+
+      pub behind_value : Between m.bytes.now m.ends m.levels next
+      behind_value = value_between (walk_between m) some_level not_closed h tag kind n next (front_so e)
+
+    module _ {tag n : ℕ} (e : r ≡ Some (Structure tag n)) where
+      pub structure_fits : m.at + item_head + n ≤ length m.bytes.now
+      structure_fits = let i = (front_so e).inside in let l = end_inside (walk_between m) some_level in omega arith
+
+      module _ (spaces : length m.ends ≡ suc deepest) where
+        pub step_structure : Onward w.bytes.now w.ends w.levels w.at (item tag ttlv.Structure m.levels (m.at + item_head) n)
+            (set m.ends m.levels (m.at + item_head + n)) (m.levels + 1) (m.at + item_head)
+        step_structure = onward_from (structure_on (walk_between m) some_level not_closed h tag n spaces (front_so e))
+
+        pub in_structure : Between m.bytes.now (set m.ends m.levels (m.at + item_head + n)) (m.levels + 1) (m.at + item_head)
+        in_structure = structure_between (walk_between m) some_level not_closed h tag n spaces (front_so e)
 
 -- ------------------------------------------------------------------------
 -- Bytes that give a list are items, and the other way
@@ -259,11 +309,10 @@ sound_if xs o e = sym (some_list 1 0 (read_at 1 xs)) ∙ ap is_some e
 
 pub record Telling (xs : List ℕ) (w : Walk) : Type 0 where
   pub over : w.bytes.now ≡ xs
-  pub open_so : Open w
   pub tells : is_some (left w) ≡ is_some (list_at 1 0 xs)
 
 pub tell_start : (xs : List ℕ) (w : Walk) → Starts xs w → Telling xs w
-tell_start xs w s = record { over = s.over; open_so = s.open_so; tells = ap is_some s.whole }
+tell_start xs w s = record { over = s.over; tells = ap is_some s.whole }
 
 some_behind : (i : Item) (r : Option (List Item)) → is_some (join (one i) r) ≡ is_some r
 unfolding join
@@ -276,7 +325,6 @@ module _ {xs : List ℕ} {w : Walk} (t : Telling xs w) where
   tell_more m i over on =
       record {
         over = over ∙ t.over;
-        open_so = rw over on.between;
         tells =
             sym (some_behind i (left m))
             ∙ ap is_some (ap (λ x. join (one i) (rest x m.ends m.levels m.at)) over ∙ sym on.taken)

@@ -1,5 +1,6 @@
 pub mod ItemList
 pub mod Reading
+pub mod Between
 pub mod Walking
 pub mod Listing
 pub mod Places

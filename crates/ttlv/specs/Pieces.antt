@@ -54,7 +54,6 @@ Absent count ns = (items_most < count) ⊎ (length ns < item_places * count)
 pub record FirstItems (count : ℕ) (ns : List ℕ) (arrays : List (List ℕ)) : Type 0 where
   pub few : count ≤ items_most
   pub there : item_places * count ≤ length ns
-  pub so_many : length arrays ≡ count
   pub items : items_of arrays ≡ items_in count ns
 
 -- the bytes of an item, whose length has four bytes
@@ -63,7 +62,6 @@ pub record Room (i : Item) (r : ℕ) : Type 0 where
   pub small : r ≤ 2 ^ 32 + 16
 
 pub record Layable (is : List Item) (values out : List ℕ) : Type 0 where
-  pub few : length is ≤ items_most
   pub inside : AllInside values is
   pub room : room_for is ≤ length out
   pub fits : room_for is < 2 ^ 32

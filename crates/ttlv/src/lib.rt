@@ -16,7 +16,7 @@ mod writing;
 use listing::list;
 use reading::front_of;
 use walk::Walk;
-use writing::{first_items, good_list, lay, total_room};
+use writing::Items;
 
 pub const DEEPEST: usize = 8;
 
@@ -133,13 +133,13 @@ pub fn write(
 ) -> Result<usize, WriteError>
     ensures { record { result = result; out = out.new } ≡ write_list items.now count values.now out.old }
 {
-    let items = first_items(items, count).ok_or(WriteError::NoList)?;
-    let n = total_room(items);
+    let items = Items::new(items, count).ok_or(WriteError::NoList)?;
+    let n = items.room();
     if out.len() < n {
         return Err(WriteError::Short);
     }
-    if !good_list(items, values.len()) || n >= LENGTHS {
+    if !items.are_good(values.len()) || n >= LENGTHS {
         return Err(WriteError::NoList);
     }
-    Ok(lay(out, items, values))
+    Ok(items.lay(out, values))
 }

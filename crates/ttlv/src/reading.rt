@@ -52,7 +52,8 @@ pub(crate) fn is_value(kind: u32, n: usize) -> bool
     }
 }
 
-// What stands at the front of a run of bytes, which starts at `at`.
+// What stands at the front of a run of bytes, which starts at `at`. In line for `Walk`, as `next_item` says.
+#[inline(always)]
 pub(crate) fn front_of(run: &[u8], at: usize) -> Option<Front>
     requires { at + length run.now < 2 ^ 64 }
     ensures { result ≡ placed at (front run.now) }

@@ -12,15 +12,11 @@ const TAGS: u32 = 0x1000000;
 
 const DEEPEST_ITEM: u32 = DEEPEST as u32;
 
-// The numbers of the first `count` items, if there are so many, and not too many for a message.
-pub(crate) fn first_items(numbers: &[u32], count: usize) -> Option<&[Numbers]>
-    ensures { MatchOption result (Absent count numbers.now) (λ items. FirstItems count numbers.now items.now) }
-{
-    if count > ITEMS_MOST {
-        return None;
-    }
-    let (items, _) = numbers.get(..ITEM_PLACES * count)?.as_chunks();
-    Some(items)
+// The items of a list by their numbers, no more of them than a message has.
+#[derive(Clone, Copy)]
+pub(crate) struct Items<'a> {
+    arrays: &'a [Numbers],
+    ghost few: { length arrays.now ≤ items_most },
 }
 
 impl Item {
@@ -59,15 +55,14 @@ impl Item {
     }
 
     // As it is written, with the items behind it: a structure has the length of its members.
-    fn as_written(self, behind: &[Numbers]) -> Item
-        requires few { length behind.now ≤ items_most }
-        requires fits { room_for (items_of behind.now) < 2 ^ 32 }
-        ensures { result ≡ with_length self (room_for (deeper self.depth (items_of behind.now))) }
+    fn as_written(self, behind: Items) -> Item
+        requires { room_for (items_of behind.arrays.now) < 2 ^ 32 }
+        ensures { result ≡ with_length self (room_for (deeper self.depth (items_of behind.entry.arrays.now))) }
     {
         if self.kind != STRUCTURE {
             return self;
         }
-        let length = total_room(members(behind, self.depth)) as u32;
+        let length = behind.deeper(self.depth).room() as u32;
         Item { length, ..self }
     }
 
@@ -95,47 +90,77 @@ impl Item {
     }
 }
 
-// The bytes of all items.
-pub(crate) fn total_room(items: &[Numbers]) -> usize
-    requires { length items.now ≤ items_most }
-    ensures { result ≡ room_for (items_of items.now) }
-{
-    items
-        .iter()
-        .map(|numbers| Item::from(*numbers).room())
-        .sum()
-}
-
-// The place of the first item that is not deeper than `depth`.
-fn first_not_deeper(items: &[Numbers], depth: u32) -> Option<usize>
-    ensures { result ≡ position (λ ns. leb (first_item ns).depth depth) items.now }
-{
-    items
-        .iter()
-        .position(|numbers| Item::from(*numbers).depth <= depth)
-}
-
-// The items in front that are deeper than `depth`.
-fn members(items: &[Numbers], depth: u32) -> &[Numbers]
-    ensures { items_of result.now ≡ deeper depth (items_of items.now) }
-{
-    let count = first_not_deeper(items, depth).unwrap_or(items.len());
-    &items[..count]
-}
-
-// Whether each item may stand where it stands.
-pub(crate) fn good_list(items: &[Numbers], n: usize) -> bool
-    ensures { result ≡ good_from n 1 (items_of items.now) }
-{
-    let mut most = 1;
-    for numbers in items {
-        let item = Item::from(*numbers);
-        if !item.is_good(n, most) {
-            return false;
+impl<'a> Items<'a> {
+    // The first `count` items of these numbers, if there are so many, and not too many for a message.
+    pub(crate) fn new(numbers: &'a [u32], count: usize) -> Option<Items<'a>>
+        ensures { MatchOption result (Absent count numbers.now) (λ items. FirstItems count numbers.now items.arrays.now) }
+    {
+        if count > ITEMS_MOST {
+            return None;
         }
-        most = item.most_behind();
+        let (arrays, _) = numbers.get(..ITEM_PLACES * count)?.as_chunks();
+        Some(Items { arrays })
     }
-    true
+
+    // The bytes of all items.
+    pub(crate) fn room(self) -> usize
+        ensures { result ≡ room_for (items_of self.entry.arrays.now) }
+    {
+        self.arrays
+            .iter()
+            .map(|numbers| Item::from(*numbers).room())
+            .sum()
+    }
+
+    // The place of the first item that is not deeper than `depth`.
+    fn first_not_deeper(self, depth: u32) -> Option<usize>
+        ensures { result ≡ position (λ ns. leb (first_item ns).depth depth) self.entry.arrays.now }
+    {
+        self.arrays
+            .iter()
+            .position(|numbers| Item::from(*numbers).depth <= depth)
+    }
+
+    // The items in front that are deeper than `depth`.
+    fn deeper(self, depth: u32) -> Items<'a>
+        ensures { items_of result.arrays.now ≡ deeper depth (items_of self.entry.arrays.now) }
+    {
+        let count = self.first_not_deeper(depth).unwrap_or(self.arrays.len());
+        Items {
+            arrays: &self.arrays[..count],
+        }
+    }
+
+    // Whether each item may stand where it stands.
+    pub(crate) fn are_good(self, n: usize) -> bool
+        ensures { result ≡ good_from n 1 (items_of self.entry.arrays.now) }
+    {
+        let mut most = 1;
+        for numbers in self.arrays {
+            let item = Item::from(*numbers);
+            if !item.is_good(n, most) {
+                return false;
+            }
+            most = item.most_behind();
+        }
+        true
+    }
+
+    // The items, one after another, at the front; how many bytes they take.
+    pub(crate) fn lay(self, out: &mut [u8], values: &[u8]) -> usize
+        requires { Layable (items_of self.arrays.now) values.now out.old }
+        ensures { LaidOut (items_of self.entry.arrays.now) values.now out.old result out.new }
+    {
+        let mut at = 0;
+        let mut left = self.arrays;
+        while let [numbers, behind @ ..] = left {
+            let item = Item::from(*numbers).as_written(Items { arrays: behind });
+            item.put(&mut out[at..], values);
+            at += item.room();
+            left = behind;
+        }
+        at
+    }
 }
 
 // A value and its padding, behind the head's place.
@@ -147,20 +172,4 @@ fn put_value(out: &mut [u8], value: &[u8])
     let end = ITEM_HEAD + value.len().next_multiple_of(PADDED_TO);
     out[ITEM_HEAD..to].copy_from_slice(value);
     out[to..end].fill(0);
-}
-
-// The items, one after another, at the front; how many bytes they take.
-pub(crate) fn lay(out: &mut [u8], items: &[Numbers], values: &[u8]) -> usize
-    requires { Layable (items_of items.now) values.now out.old }
-    ensures { LaidOut (items_of items.now) values.now out.old result out.new }
-{
-    let mut at = 0;
-    let mut left = items;
-    while let [numbers, behind @ ..] = left {
-        let item = Item::from(*numbers).as_written(behind);
-        item.put(&mut out[at..], values);
-        at += item.room();
-        left = behind;
-    }
-    at
 }

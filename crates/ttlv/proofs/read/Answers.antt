@@ -21,10 +21,6 @@ returns-then-bytes-gt-MESSAGE_MOST c =
           read_unsound s.bytes.now s.places.now enough w.if-bytes-gt-MESSAGE_MOST.false (sym w.sound.ensures ∙ w.if-not-sound.true)
     ]
 
-pub list-requires : goal.list-requires
-list-requires c =
-    record { sound = sym c.sound.ensures ∙ c.if-not-sound.false; short = c.if-bytes-gt-MESSAGE_MOST.false; enough = c.if-places.false }
-
 pub returns : goal.returns
 returns c =
     let s = c.args in

@@ -2,11 +2,8 @@
 -- Assumes nothing.
 use mathlib.Core.List.{[]}
 use mathlib.Core.Option.{none, some}
-use Rattle.ttlv.proofs.WalkLaws.{tell_start, tell_more, tell_end}
+use Rattle.ttlv.proofs.WalkLaws.{tell_more, tell_end}
 use Rattle.ttlv.proofs.sound.Goals as goal
-
-pub loop-init : goal.loop-init
-loop-init c = tell_start _ _ c.new-walk.ensures
 
 pub loop-preserved : goal.loop-preserved
 loop-preserved c = let on = rw c.in-Ok-Some.field-0-is at c.in-Ok-Some.ensures in tell_more c.loop.invariant _ _ on.0 on.1

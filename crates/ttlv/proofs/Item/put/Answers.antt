@@ -31,10 +31,6 @@ returns-then-self-eq-STRUCTURE c =
     let head_put = ap (◌++ drop item_head s.out.now) (c.copy_from_slice.ensures.after ∙ c.head.ensures) in
     head_put ∙ piece_head s.values.now s.self s.out.now c.if-self-eq-STRUCTURE.true
 
-pub slice_bounds-put_value-end : goal.slice_bounds-put_value-end
-slice_bounds-put_value-end c =
-    c.requires.1.there c.if-self-eq-STRUCTURE.false
-
 pub put_value-requires : goal.put_value-requires
 put_value-requires c =
     let s = c.args in

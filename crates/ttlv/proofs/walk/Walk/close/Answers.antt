@@ -1,14 +1,15 @@
 -- `close` meets its contract: what is left stays.
 -- Assumes nothing.
-use mathlib.Core.Path.{sym, ap, ◌∙◌}
-use Prim.Native.Nat.{◌-◌}
-use lib.ListN.{get_or}
-use Rattle.ttlv.proofs.WalkLaws.{close_between, close_rest}
+use mathlib.Core.Path.{sym, ◌∙◌}
+use Rattle.ttlv.proofs.WalkLaws.{walk_between, close_between, close_rest}
 use Rattle.ttlv.proofs.walk.Walk.close.Goals as goal
+
+pub invariant_of-self : goal.invariant_of-self
+invariant_of-self c =
+    let o = close_between (walk_between c.loop-self.self) c.loop-self-test.true (sym c.if-self.true) in
+    record { inside = o.inside; few = o.few; nested = o.nested }
 
 pub loop-self-preserved : goal.loop-self-preserved
 loop-self-preserved c =
-    let l = c.loop-self in
-    let i = l.invariant in
-    let e = sym (ap (λ ends. get_or ends (l.self.levels - 1) 0) (sym i.1) ∙ c.if-self.true ∙ i.2) in
-    (i.0, i.1, i.2, close_between i.3 c.loop-self-test.true e, close_rest i.3 c.loop-self-test.true e ∙ i.4)
+    let i = c.loop-self.invariant in
+    (i.0, i.1, close_rest (walk_between c.loop-self.self) c.loop-self-test.true (sym c.if-self.true) ∙ i.2)

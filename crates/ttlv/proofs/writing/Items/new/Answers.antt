@@ -1,7 +1,7 @@
 -- `first_items` meets its contract: the items of so many numbers, or none if they are not there.
 -- Assumes nothing.
 use Rattle.ttlv.proofs.ItemsInLaws.{arrays_items}
-use Rattle.ttlv.proofs.writing.first_items.Goals as goal
+use Rattle.ttlv.proofs.writing.Items.new.Goals as goal
 
 pub returns : goal.returns
 returns c =

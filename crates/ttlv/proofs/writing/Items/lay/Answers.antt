@@ -8,8 +8,8 @@ use Rattle.ttlv.specs.declared.Item.{Item}
 use Rattle.ttlv.specs.Writing.{deeper, room_for}
 use Rattle.ttlv.specs.Pieces.{with_length, Layable}
 use Rattle.ttlv.proofs.ItemLoopLaws.{no_item}
-use Rattle.ttlv.proofs.LayLaws.{Laying, Piece, lay_start, left_fits, lay_end, piece_inside, piece_room, piece_lent, lay_more, first_lent}
-use Rattle.ttlv.proofs.writing.lay.Goals as goal
+use Rattle.ttlv.proofs.LayLaws.{Laying, Piece, left_fits, lay_end, piece_inside, piece_lent, lay_more, first_lent}
+use Rattle.ttlv.proofs.writing.Items.lay.Goals as goal
 
 -- an item is written next
 piece_of : {is left behind : List Item} {values out₀ out : List ℕ} {at : ℕ} {w p : Item} → Layable is values out₀
@@ -17,11 +17,8 @@ piece_of : {is left behind : List Item} {values out₀ out : List ℕ} {at : ℕ
     → Piece values is out₀ out at w behind p
 piece_of able so_far step written = record { so_far = rw (← step) so_far; fits = able.room; is_piece = written }
 
-pub loop-left-init : goal.loop-left-init
-loop-left-init c = lay_start _ _ _ c.requires
-
-pub as_written-item-requires-clause-fits : goal.as_written-item-requires-clause-fits
-as_written-item-requires-clause-fits c =
+pub as_written-item-requires : goal.as_written-item-requires
+as_written-item-requires c =
     let step = first_lent c.loop-left.left.now c.from.result c.from.ensures c.in-len1-up.len_at_least in
     left_fits c.from.result c.loop-left.invariant c.requires.fits step
 
@@ -30,14 +27,6 @@ put-requires c =
     let step = first_lent c.loop-left.left.now c.from.result c.from.ensures c.in-len1-up.len_at_least in
     let piece = piece_of c.requires c.loop-left.invariant step c.as_written-item.ensures in
     (piece_lent piece, piece_inside piece)
-
-pub overflow_add-at : goal.overflow_add-at
-overflow_add-at c =
-    let step = first_lent c.loop-left.left.now c.from.result c.from.ensures c.in-len1-up.len_at_least in
-    let piece = piece_of c.requires c.loop-left.invariant step c.as_written-item.ensures in
-    let r = piece_room piece in
-    let m = c.room-at.ensures.is in
-    omega arith
 
 pub loop-left-preserved : goal.loop-left-preserved
 loop-left-preserved c =

@@ -3,7 +3,7 @@ use mathlib.Core.Path.{◌≡◌}
 use lib.ListN.{drop}
 use Rattle.ttlv.specs.Writing.{good_from}
 use Rattle.ttlv.specs.Pieces.{items_of}
-use Rattle.ttlv.proofs.writing.good_list.Given as goal
+use Rattle.ttlv.proofs.writing.Items.are_good.Given as goal
 
 abbrev pub invariant-loop-numbers : goal.invariant-loop-numbers
-invariant-loop-numbers l = good_from l.n l.most (items_of (drop l.numbers-index l.items)) ≡ good_from l.n 1 (items_of l.items)
+invariant-loop-numbers l = good_from l.n l.most (items_of (drop l.numbers-index l.self.arrays.now)) ≡ good_from l.n 1 (items_of l.self.arrays.now)

@@ -8,9 +8,9 @@ use Rattle.std.specs.List.{sum}
 use Rattle.ttlv.specs.Listing.{first_item}
 use Rattle.ttlv.specs.Writing.{room_of}
 use Rattle.ttlv.proofs.RoomLaws.{rooms_sum}
-use Rattle.ttlv.proofs.writing.total_room.Goals as goal
+use Rattle.ttlv.proofs.writing.Items.room.Goals as goal
 
 pub returns : goal.returns
 returns c =
-    let e : c.sum.result ≡ sum (map (λ ns. room_of (first_item ns)) c.args.items.now) = search (rules, chains) in
-    e ∙ rooms_sum c.args.items.now
+    let e : c.sum.result ≡ sum (map (λ ns. room_of (first_item ns)) c.args.self.arrays.now) = search (rules, chains) in
+    e ∙ rooms_sum c.args.self.arrays.now
