@@ -1,6 +1,6 @@
 -- What reading a message leaves, by what was found in it.
 -- Assumes nothing.
-use mathlib.Core.Path.{◌≡◌, sym, ap, ◌∙◌}
+use mathlib.Core.Path.{◌≡◌, refl, sym, ap, ◌∙◌}
 use mathlib.Core.Bool.{Bool, true, false, cond}
 use mathlib.Core.List.{List, ◌++◌}
 use Prim.Native.Nat.{ℕ, ◌+◌, ◌<◌, ◌≤◌}
@@ -9,7 +9,7 @@ use lib.ListN.{length, drop}
 use lib.Dec.{eqb, ltb}
 use borrow.Author.Tests.{lt-ltb, le-ltb, ltb-false, eqb-false, ne_eqb}
 use mathlib.Core.Logic.{◌⊎◌, inl, inr}
-use Rattle.std.specs.Prelude.{Option, Some, None, Ok, Err}
+use Rattle.std.specs.Prelude.{Option, Some, None, Ok, Err, ok_or}
 use Rattle.cells.proofs.PredicatesLaws.{or_right, or_left}
 use Rattle.rules.specs.Numbers.{uid_most, key_size}
 use Rattle.rules.specs.Frames.{bad_uid_length}
@@ -36,6 +36,10 @@ good_length n full few = rw (ne_eqb n 0 full, le-ltb uid_most n few)
 
 -- ------------------------------------------------------------------------
 -- What was found
+
+pub nothing_found : {A E : Type 0} (o : Option A) (e f : E) → Err e ≡ ok_or o f → (o ≡ None) × (e ≡ f)
+nothing_found None e f h = (refl, cc)
+nothing_found (Some x) e f h = cc
 
 module _ (ns tag : ℕ) (xs out : List ℕ) where
   pub no_room : length out < uid_most + key_size → record { result = Err NoRoom; out = out } ≡ read_message ns tag xs out

@@ -1,15 +1,13 @@
 -- `read` meets its contract: each refusal in its order, or both parts copied one behind the other.
 -- Assumes nothing.
-use mathlib.Core.Path.{◌≡◌, refl}
+use mathlib.Core.Path.{refl}
 use native.Mathlib.Omega.{arith}
 use Prim.Native.Nat.{◌+◌}
 use lib.ListN.{length}
-use Rattle.std.specs.Prelude.{None}
 use Rattle.std.proofs.lemmas.Result.{err_from_is_err_and}
 use Rattle.cells.proofs.CellsLaws.{push}
 use Rattle.rules.specs.Numbers.{key_size}
-use Rattle.kmip.specs.declared.ReadError.TheVariants.{NoLoad}
-use Rattle.kmip.proofs.ReadingLaws.{bad_length, good_length, no_room, no_load, bad_uid, brings}
+use Rattle.kmip.proofs.ReadingLaws.{bad_length, good_length, nothing_found, no_room, no_load, bad_uid, brings}
 use Rattle.kmip.proofs.read.Goals as goal
 
 pub returns-then-out : goal.returns-then-out
@@ -20,10 +18,9 @@ returns-then-out c =
 pub returns-in_err-uid : goal.returns-in_err-uid
 returns-in_err-uid c =
     let s = c.args in
-    let nothing : c.request.result ≡ None = grind arith in
-    let refused : c.in_err-uid.field-0.0 ≡ NoLoad = grind arith in
+    let nothing = nothing_found c.request.result _ _ c.in_err-uid.ensures.value in
     let passed_on = err_from_is_err_and c.from_residual.result c.from_residual.ensures.1 in
-    rw (passed_on.1, passed_on.2, refused) (no_load s.ns s.tag s.bytes.now s.out.now c.if-out.false c.request.result c.request.ensures nothing)
+    rw (passed_on.1, passed_on.2, nothing.1) (no_load s.ns s.tag s.bytes.now s.out.now c.if-out.false c.request.result c.request.ensures nothing.0)
 
 pub returns-then-n-eq0 : goal.returns-then-n-eq0
 returns-then-n-eq0 c =
