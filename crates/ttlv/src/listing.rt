@@ -10,6 +10,7 @@ pub(crate) fn list(bytes: &[u8], places: &mut [u32]) -> Result<usize, ReadError>
     ensures { Laid bytes.now places.old result places.new }
 {
     let mut walk = Walk::new(bytes);
+    // (d) The count is what is returned, and a `for` over the places would need a way out behind them.
     let mut count = 0;
     while let Some(found) = walk.next_item()? {
         let from = ITEM_PLACES * count;
