@@ -41,10 +41,6 @@ pub nothing_found : {A E : Type 0} (o : Option A) (e f : E) → Err e ≡ ok_or 
 nothing_found None e f h = (refl, cc)
 nothing_found (Some x) e f h = cc
 
-pub something_found : {A E : Type 0} (o : Option A) (x : A) (f : E) → Ok x ≡ ok_or o f → o ≡ Some x
-something_found None x f h = cc
-something_found (Some y) x f h = cc
-
 module _ (ns tag : ℕ) (xs out : List ℕ) where
   pub no_room : length out < uid_most + key_size → record { result = Err NoRoom; out = out } ≡ read_message ns tag xs out
   unfolding read_message

@@ -38,11 +38,7 @@ other_tag ns tag t members end other = ap (λ b. b && in_order (request_message 
 other_tag ns tag t members (value u kind bytes behind) other = refl
 other_tag ns tag t members (structure u others behind) other = refl
 
--- what was told of an option by its variant, at whether there is something
-pub none_told : {A : Type 0} (P : Type 0) (Q : A → Type 0) (o : std.Option A) → std.is_some o ≡ false → MatchOption o P Q → P
-none_told P Q std.None e told = told
-none_told P Q (std.Some x) e told = cc
-
+-- what was told of an option, where there is something
 pub some_told : {A : Type 0} (P : Type 0) (Q : A → Type 0) (o : std.Option A) → std.is_some o ≡ true → MatchOption o P Q → (x : A) × Q x
 some_told P Q std.None e told = cc
 some_told P Q (std.Some x) e told = (x, told)

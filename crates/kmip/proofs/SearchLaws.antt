@@ -11,6 +11,7 @@ use Rattle.std.specs.Borrow.{Bor}
 use Rattle.std.specs.Iterator.{Yields, YieldsThen, FindsMapped}
 use Rattle.std.specs.Iterator.Runs.{SomeRun, AllItemsGive, AllItems, YieldsRun}
 use Rattle.std.specs.Iterator.Runs as Runs
+use Rattle.std.proofs.lemmas.Option.{IfSome_then}
 use Rattle.std.specs.Fn.{Called}
 use Rattle.std.specs.List.{FoldsTo}
 use denote.Param.Members.{Mut}
@@ -38,10 +39,6 @@ module _ {F A : Type 0} (R : F → Item → F → Type 0) (f : F) (asked : Items
       (ih.0, ap asked y.1.is ∙ over x (items_of y.0) o.1 ∙ ih.1)
 
 -- the same of a search that gives something of an item: it passed over all, or over those before the item that gave it
-map_some : {P Q : Item → Type 0} (o : Option Item) → IfSome o P → ((x : Item) → P x → Q x) → IfSome o Q
-map_some None h f = tt
-map_some (Some x) h f = f x h
-
 module _ {A : Type 0} (asked : Items → A) (Over : Item → Type 0)
     (over : (x : Item) (behind : Items) → Over x → asked (with_body x.tag x.body behind) ≡ asked behind) where
   all_over : (xs : List Item) (s t : Run) → ((k : ℕ) → IfSome (slice_get xs k) Over) → Yields steps s xs t → asked (items_of s) ≡ asked (items_of t)
@@ -67,7 +64,7 @@ module _ {A : Type 0} (asked : Items → A) (Over : Item → Type 0)
         let p = runs.0 in
         let each = runs.2.1 (λ a r q h. keeps a.0 r q h) in
         ap (λ r. asked (items_of r)) (sym runs.1)
-        ∙ whole_over p runs.2.0 (λ k. map_some (p.at k) (each k) (λ x h. none x f h))
+        ∙ whole_over p runs.2.0 (λ k. IfSome_then (p.at k) (each k) (λ x h. none x f h))
     gave P (Some b) s u ran runs = by ran.1 ran.3.2 ran.5
       where
         before : (ran.2 ≡ f) × (asked (items_of s) ≡ asked (items_of ran.3.0))

@@ -6,7 +6,7 @@ ghost use Rattle.rules.specs.Kmip.{named as firstNamed, attributes as attributes
 ghost use Rattle.kmip.specs.Runs.{items_of, GivesIf};
 
 use crate::Slot;
-use crate::members::{Body, Item, TEXT, structure, value};
+use crate::members::{Body, TEXT, structure, value};
 use crate::rows::{NumberType, numbered, worded};
 use crate::run::Run;
 

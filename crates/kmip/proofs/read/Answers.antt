@@ -7,7 +7,7 @@ use lib.ListN.{length}
 use Rattle.std.proofs.lemmas.Result.{err_from_is_err_and}
 use Rattle.cells.proofs.CellsLaws.{push}
 use Rattle.rules.specs.Numbers.{key_size}
-use Rattle.kmip.proofs.ReadingLaws.{bad_length, good_length, nothing_found, something_found, no_room, no_load, bad_uid, brings}
+use Rattle.kmip.proofs.ReadingLaws.{bad_length, good_length, nothing_found, no_room, no_load, bad_uid, brings}
 use Rattle.kmip.proofs.read.Goals as goal
 
 pub returns-then-out : goal.returns-then-out
@@ -26,7 +26,7 @@ pub returns-then-n-eq0 : goal.returns-then-n-eq0
 returns-then-n-eq0 c =
     let s = c.args in
     bad_uid s.ns s.tag s.bytes.now s.out.now c.if-out.false c.request.result c.request.ensures c.in_ok-uid.field-0
-    (something_found c.request.result _ _ c.in_ok-uid.ensures.value) (bad_length _ c.then-n-eq0.either)
+    (grind arith) (bad_length _ c.then-n-eq0.either)
 
 pub returns : goal.returns
 returns c =
@@ -34,5 +34,5 @@ returns c =
     let l = c.in_ok-uid.field-0 in
     let n = length l.uid.now in
     brings s.ns s.tag s.bytes.now s.out.now c.if-out.false c.request.result c.request.ensures l
-    (something_found c.request.result _ _ c.in_ok-uid.ensures.value) (good_length n c.if-n-eq0.false c.if-n-gt-UID_MOST.false) _
+    (grind arith) (good_length n c.if-n-eq0.false c.if-n-gt-UID_MOST.false) _
     (rw (c.copy_from_slice.ensures.after, c.copy_from_slice-2.ensures.after) (push l.uid.now s.out.now l.key.now n (n + key_size) refl (omega arith)))

@@ -1,9 +1,12 @@
 -- `request` meets its contract.
 -- Assumes nothing.
-use mathlib.Core.Path.{ap, ◌∙◌}
+use mathlib.Core.Path.{◌≡◌, ap, ◌∙◌}
+use native.Mathlib.Omega.{arith}
 use mathlib.Core.Bool.{not}
+use Rattle.rules.specs.Ttlv.{end}
 use Rattle.kmip.specs.Reading.{loaded}
-use Rattle.kmip.proofs.RequestLaws.{unsound_none, empty_none, other_none, several_none, tag_none, message_loads, none_told, some_told}
+use Rattle.kmip.specs.Runs.{items_of}
+use Rattle.kmip.proofs.RequestLaws.{unsound_none, empty_none, other_none, several_none, tag_none, message_loads, some_told}
 use Rattle.kmip.proofs.message.request.Goals as goal
 use Rattle.kmip.proofs.message.request.Goals.{
   in_default-via-in-Structure+then-item-eq-REQUEST_MESSAGE+else-is_none,
@@ -26,7 +29,7 @@ pub returns-in-Structure : goal.returns-in-Structure
 returns-in-Structure c =
     let s = c.args.slot in
     let first = c.in_ok-item.ensures.steps in
-    let alone = none_told _ _ _ (c.is_none.ensures ∙ ap not c.if-is_none.true) c.next-then-item-eq-REQUEST_MESSAGE.ensures.steps in
+    let alone : items_of c.next.new.self ≡ end = grind arith in
     message_loads s.namespace s.tag c.args.bytes.now c.in_ok-run.run' c.in_ok-run.ensures c.in_ok-item.item.tag c.in_ok-item.item.body _ first.is
     c.in-Structure.members c.in-Structure.is alone c.if-item-eq-REQUEST_MESSAGE.true c.message.result c.message.ensures
 
