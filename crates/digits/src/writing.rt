@@ -44,7 +44,7 @@ fn put_digits(bytes: &[u8], out: &mut [u8])
     }
 }
 
-// Writes the line of an answer that has these bytes.
+// Writes the line of an answer that has these bytes, and says how long it is; 0 where there is no room, as `write_answer` has to (`wrote`).
 pub(crate) fn write_line(bytes: &[u8], out: &mut [u8]) -> usize
     ensures { (a : Answer) → answer_bytes a ≡ bytes.entry.now
         → record { bytes = result; out = out.new } ≡ wrote a out.old }
@@ -64,6 +64,7 @@ pub(crate) fn write_discovery(out: &mut [u8]) -> usize
 {
     let mut bytes = [0u8; NUMBER_SIZE + DISCOVERY_SIZE];
     let fields = discovery::own_fields();
+    // It has room.
     let _ = discovery::write(fields, &mut bytes[NUMBER_SIZE..]);
     write_line(&bytes, out)
 }
