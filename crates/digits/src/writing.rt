@@ -33,6 +33,7 @@ fn digit(n: u8) -> u8
 }
 
 // Two digits for each byte, at the front of the output. Not proved over `out.chunks_exact_mut(2)`: std doesn't say what the slice ends as.
+#[tactic(auto, using(crate::proofs::WritingLaws::digits_turn), unfolding(rules::specs::Answers::digits_of))]
 fn put_digits(bytes: &[u8], out: &mut [u8])
     requires { length bytes.now * 2 ≤ length out.old }
     ensures { out.new ≡ digits_of bytes.now ++ drop (length bytes.now * 2) out.old }
