@@ -1,9 +1,10 @@
 -- The first bad digit, found by a walk from the front; the largest value on the
 -- way; pairs of digits, decoded one after the other.
 -- Assumes nothing.
-use Rattle.std.proofs.Common.{◌≡◌, ℕ, suc, ◌+◌, ◌-◌, ◌*◌, ◌/◌, ◌%◌, ◌<◌, ◌≤◌, Bool, true, false, cond, ◌&&◌, ltb, leb, List}
-use Rattle.std.proofs.Common.{[], ◌∷◌, ◌++◌, length, get_or, take, drop, set, sym, refl, ap, ◌∙◌, append_assoc, append-nil, add-one, arith, length-drop}
-use Rattle.std.proofs.Common.{drop_of_length-le, length-take-le, take_all, drop-cons, take-suc, le-ltb, leb-true}
+use Rattle.std.proofs.Common.{◌≡◌, ℕ, suc, ◌+◌, ◌-◌, ◌*◌, ◌/◌, ◌%◌, ◌<◌, ◌≤◌, Bool, true, false, cond, ltb, List}
+use Rattle.std.proofs.Common.{[], ◌∷◌, ◌++◌, length, get_or, take, drop, set, sym}
+use Rattle.std.proofs.Common.{refl, ap, ◌∙◌, append_assoc, append-nil, add-one, arith, length-drop}
+use Rattle.std.proofs.Common.{drop_of_length-le, length-take-le, take_all, drop-cons, take-suc, le-ltb}
 use Rattle.std.specs.Prelude.{not, Some, None, position, max, slice_get}
 use Rattle.std.proofs.lemmas.List.{drop_more, get_or-drop}
 use Rattle.std.proofs.lemmas.Option.{get_or_from_slice_get}
@@ -11,13 +12,9 @@ use Rattle.std.proofs.lemmas.List.Recursion.{is_position_or_len}
 use mathlib.Core.Logic.{by_cases}
 use native.Mathlib.Decide.{dec_lt}
 use Rattle.cells.proofs.CellsLaws.{grow}
-use Rattle.cells.proofs.PredicatesLaws.{and_left, and_right, true_or_false}
 use Rattle.rules.specs.FrameLine.{is_digit, value_of, first_bad, decoded}
 use Rattle.digits.specs.Decoding.{Valued, bad_digit}
 use Rattle.digits.specs.Digits.{framed}
-
-pub outside : (a z d : ℕ) → (a ≤ d → d ≤ z → ⊥) → leb a d && leb d z ≡ false
-outside a z d out = true_or_false _ (λ e. out (leb-true a d (and_left _ _ e)) (leb-true d z (and_right (leb a d) _ e)))
 
 -- ------------------------------------------------------------------------
 -- The first bad digit as `position` finds it

@@ -33,6 +33,7 @@ fn digit(n: u8) -> u8
 }
 
 // Two digits for each byte, at the front of the output. Not proved over `out.chunks_exact_mut(2)`: std doesn't say what the slice ends as.
+#[tactic(auto, using(crate::proofs::WritingLaws::digits_turn), unfolding(rules::specs::Answers::digits_of))]
 fn put_digits(bytes: &[u8], out: &mut [u8])
     requires { length bytes.now * 2 ≤ length out.old }
     ensures { out.new ≡ digits_of bytes.now ++ drop (length bytes.now * 2) out.old }
@@ -44,7 +45,7 @@ fn put_digits(bytes: &[u8], out: &mut [u8])
     }
 }
 
-// Writes the line of an answer that has these bytes.
+// Writes the line of an answer that has these bytes, and says how long it is; 0 where there is no room, as `write_answer` has to (`wrote`).
 pub(crate) fn write_line(bytes: &[u8], out: &mut [u8]) -> usize
     ensures { (a : Answer) → answer_bytes a ≡ bytes.entry.now
         → record { bytes = result; out = out.new } ≡ wrote a out.old }
@@ -64,6 +65,7 @@ pub(crate) fn write_discovery(out: &mut [u8]) -> usize
 {
     let mut bytes = [0u8; NUMBER_SIZE + DISCOVERY_SIZE];
     let fields = discovery::own_fields();
+    // It has room.
     let _ = discovery::write(fields, &mut bytes[NUMBER_SIZE..]);
     write_line(&bytes, out)
 }

@@ -1,6 +1,7 @@
 -- What was tested on the way is the reader's verdict.
 -- Assumes nothing.
-use Rattle.std.proofs.Common.{◌≡◌, ℕ, ◌+◌, ◌-◌, ◌≤◌, ◌<◌, true, false, List, [], length, take, refl, ap, sym, ◌∙◌, arith, le-ltb, lt-ltb}
+use Rattle.std.proofs.Common.{◌≡◌, ℕ, ◌+◌, ◌-◌, ◌≤◌, ◌<◌, true, false, List, []}
+use Rattle.std.proofs.Common.{length, take, refl, ap, sym, ◌∙◌, arith, le-ltb, lt-ltb}
 use Rattle.std.specs.Prelude.{Option, Some, None, Result, Ok, Err, MatchOption, IsErrAnd}
 use Rattle.std.specs.Borrow.{Bor}
 use Rattle.std.specs.List.{slice_range}
@@ -71,7 +72,12 @@ module _ (d : List ℕ) (enough : header_size ≤ length d) {head : List ℕ} (f
       past runs =
           let ran : runs_past (features 0 (part header_size (end_of d - header_size) d)) ≡ true =
           ap (λ l. runs_past (features 0 l)) (sym features_are) ∙ runs in
-          rw (le-ltb (length d) header_size enough, le-ltb (end_of d) header_size (omega (arith, end_is)), le-ltb (length d) (end_of d) (omega (arith, end_is)), ran)
+          rw (
+            le-ltb (length d) header_size enough,
+            le-ltb (end_of d) header_size (omega (arith, end_is)),
+            le-ltb (length d) (end_of d) (omega (arith, end_is)),
+            ran,
+          )
 
       pub whole : (o : Found) {h : DiscoveryHeader} {t : Option Tper} {k : Option KeyPerIo} → h ≡ header_from head
           → (runs_past (features 0 f) ≡ false) × (First o.tper tper_code f × First o.key_per_io key_per_io_code f)

@@ -1,6 +1,7 @@
 -- The three parts of a response, written one behind the other, are the response.
 -- Assumes nothing.
-use Rattle.std.proofs.Common.{◌≡◌, ℕ, List, ◌+◌, ◌++◌, length, refl, take_all, take, drop, sym, ap, ◌∙◌, append_assoc, length-append, arith}
+use Rattle.std.proofs.Common.{◌≡◌, ℕ, List, ◌+◌, ◌++◌, length, refl, take_all, take}
+use Rattle.std.proofs.Common.{drop, sym, ap, ◌∙◌, append_assoc, length-append, arith}
 use Rattle.std.proofs.lemmas.List.{take_at, drop_at}
 use Rattle.std.proofs.lemmas.Slice.{put_mid-paste}
 use borrow.Rule.Slice.PartMut.{put_mid}
@@ -18,7 +19,8 @@ over_next p out y n m lp ly =
     let all : take m y ≡ y = take_all m y (omega arith) in
     put_mid-paste n m (p ++ drop n out) y y m refl refl (sym ly) ∙ (rw (take_at p (drop n out) n lp, all, rest))
 
-pub responded : (f : DiscoveryFields) (out : List ℕ) {h t k : List ℕ} → length h ≡ header_size → length t ≡ tper_size → length k ≡ key_per_io_size
+pub responded : (f : DiscoveryFields) (out : List ℕ) {h t k : List ℕ}
+    → length h ≡ header_size → length t ≡ tper_size → length k ≡ key_per_io_size
     → h ≡ header_bytes f.header → t ≡ tper_bytes f.tper → k ≡ key_per_io_bytes f.key_per_io
     → put_mid (header_size + tper_size) key_per_io_size (put_mid header_size tper_size (h ++ drop header_size out) t) k ≡ written (response f) out
 unfolding response
