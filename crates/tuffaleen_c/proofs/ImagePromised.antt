@@ -16,6 +16,7 @@ use Rattle.rules.specs.declared.Lock.{Lock}
 use Rattle.rules.specs.declared.Lock.TheVariants.{WriteUnlocked, WriteLocked, WriteLockedUntilPowerCycle}
 use Rattle.rules.specs.declared.Refusal.{Refusal}
 use Rattle.rules.specs.Answer.{Answer}
+use Rattle.std.specs.Prelude.{Ok, Err}
 use Rattle.rules.specs.declared.Granted.TheVariants.{Done, LockStates, Discovery}
 use Rattle.rules.specs.Numbers.{namespaces, cache_size}
 use Rattle.rules.specs.Answers.{number, refusal_number}

@@ -2,7 +2,7 @@
 -- or 07 10 and zeros.
 -- Assumes nothing.
 use Rattle.std.proofs.Math.Option.{Option, none, some}
-use Rattle.std.specs.Prelude.{List, ◌++◌, ℕ}
+use Rattle.std.specs.Prelude.{List, ◌++◌, ℕ, Ok, Err}
 use Rattle.cells.specs.Cells.{zeros}
 use Rattle.rules.specs.declared.Granted.TheVariants.{Done}
 use Rattle.rules.specs.Numbers.{wrapped_size}

@@ -2,18 +2,17 @@
 -- include/tuffaleen.h names: 001's fields in their order, and before each
 -- feature's whether it was found. An absent feature's numbers are 0.
 -- Assumes nothing.
-use Rattle.std.specs.Prelude.{cond, List, [], ◌∷◌, ◌++◌, ℕ, ◌+◌, length, drop, ltb}
+use Rattle.std.specs.Prelude.{List, [], ◌∷◌, ◌++◌, ℕ, ◌+◌, length, drop, ltb, Option, Some, None, Result, Ok, Err}
 use Rattle.cells.specs.Cells.{zeros}
 use Rattle.rules.specs.declared.DiscoveryHeader.{DiscoveryHeader}
-use Rattle.rules.specs.declared.TperFound.{TperFound}
-use Rattle.rules.specs.declared.TperFound.TheVariants as tper
+use Rattle.rules.specs.declared.Tper.{Tper}
 use Rattle.rules.specs.declared.KeyPerIo.{KeyPerIo}
-use Rattle.rules.specs.declared.KeyPerIoFound.{KeyPerIoFound}
-use Rattle.rules.specs.declared.KeyPerIoFound.TheVariants as keyPerIo
 use Rattle.rules.specs.declared.Discovered.{Discovered}
+use Rattle.rules.specs.declared.Granted.TheVariants.{Done}
+use Rattle.rules.specs.declared.Refusal.{Refusal}
 use Rattle.rules.specs.Numbers.{vendor_specific_size}
 use Rattle.rules.specs.Checks.{◌when◌, judged}
-use Rattle.rules.specs.Answers.{refusal_number, number, accepted, 07·0F}
+use Rattle.rules.specs.Answers.{number, 07·0F}
 use Rattle.rules.specs.Discovering.{discovered}
 
 abbrev pub header_places : ℕ
@@ -32,9 +31,9 @@ fields_size = header_places + tper_places + key_per_io_places
 abbrev pub header_numbers : DiscoveryHeader → List ℕ
 header_numbers h = h.data_structure_revision ∷ h.vendor_specific
 
-unfoldable pub tper_numbers : TperFound → List ℕ
-tper_numbers tper.Absent = zeros tper_places
-tper_numbers (tper.Found t) =
+unfoldable pub tper_numbers : Option Tper → List ℕ
+tper_numbers None = zeros tper_places
+tper_numbers (Some t) =
     1
     ∷ t.version
     ∷ t.com_id_mgmt_supported
@@ -80,9 +79,9 @@ found_numbers k =
     ∷ k.nonce_length
     ∷ []
 
-abbrev pub key_per_io_numbers : KeyPerIoFound → List ℕ
-key_per_io_numbers keyPerIo.Absent = zeros key_per_io_places
-key_per_io_numbers (keyPerIo.Found k) = found_numbers k
+abbrev pub key_per_io_numbers : Option KeyPerIo → List ℕ
+key_per_io_numbers None = zeros key_per_io_places
+key_per_io_numbers (Some k) = found_numbers k
 
 abbrev pub numbers_of : Discovered → List ℕ
 numbers_of o = header_numbers o.header ++ (tper_numbers o.tper ++ key_per_io_numbers o.key_per_io)
@@ -94,12 +93,11 @@ pub record CDiscovery : Type 0 where
   pub number : ℕ
   pub fields : List ℕ
 
--- 07 0F for fewer places, then 07 16: the fields stay; else the numbers stand at their front
+-- a refusal, and the fields stay; else the numbers stand at their front
+abbrev pub told : List ℕ → Result Discovered Refusal → CDiscovery
+told fields (Err r) = record { number = number (Err r); fields = fields }
+told fields (Ok o) = record { number = number (Ok Done); fields = numbers_of o ++ drop fields_size fields }
+
+-- 07 0F for fewer places, then 07 16
 unfoldable pub c_discovery : List ℕ → List ℕ → CDiscovery
-c_discovery bytes fields =
-    let o = discovered bytes in
-    judged
-    (07·0F when ltb (length fields) fields_size
-    ∷ [])
-    (λ r. record { number = refusal_number r; fields = fields })
-    (record { number = number o.answer; fields = cond (accepted o.answer) (numbers_of o ++ drop fields_size fields) fields })
+c_discovery bytes fields = told fields (judged (07·0F when ltb (length fields) fields_size ∷ []) Err (discovered bytes))

@@ -2,25 +2,21 @@
 -- than 408 bytes, then 07 17 for a key of other than 32 bytes, then 07 18 for an
 -- empty or too long KeyUID, and then nothing is written.
 -- Assumes nothing.
-use Rattle.std.specs.Prelude.{List, ℕ}
+use Rattle.std.specs.Prelude.{List, ℕ, Result, Ok, Err}
 use Rattle.rules.specs.Answer.{Answer}
 use Rattle.rules.specs.declared.Granted.TheVariants.{Done}
-use Rattle.rules.specs.Answers.{07·0F, 07·17, 07·18, number}
-use Rattle.kmip.specs.declared.MessageWritten.{MessageWritten}
-use Rattle.kmip.specs.declared.MessageWritten.TheVariants.{NoRoom, NoKey, BadKeyUid, Bytes}
+use Rattle.rules.specs.Answers.{number}
+use Rattle.kmip.specs.declared.WriteError.{WriteError}
+use Rattle.kmip.specs.Refusals.{write_refusal}
 use Rattle.kmip.specs.Writing.{write_message}
 
-abbrev pub message_answer : MessageWritten → Answer
-message_answer NoRoom = Err 07·0F
-message_answer NoKey = Err 07·17
-message_answer BadKeyUid = Err 07·18
-message_answer (Bytes n) = Ok Done
+abbrev pub message_answer : Result ℕ WriteError → Answer
+message_answer (Ok n) = Ok Done
+message_answer (Err e) = Err (write_refusal e)
 
-abbrev pub message_length : MessageWritten → ℕ
-message_length NoRoom = 0
-message_length NoKey = 0
-message_length BadKeyUid = 0
-message_length (Bytes n) = n
+abbrev pub message_length : Result ℕ WriteError → ℕ
+message_length (Ok n) = n
+message_length (Err e) = 0
 
 pub record CMessage : Type 0 where
   pub number : ℕ

@@ -1,8 +1,8 @@
 // What a host finds in a discovery response, as numbers at the places that include/tuffaleen.h names.
 ghost use Rattle.std.specs.Prelude.{◌≡◌, cond, ◌++◌, ◌≤◌, length, drop, eqb};
-ghost use Rattle.tuffaleen_c.specs.Host.{fields_size, header_numbers, tper_numbers, found_numbers, key_per_io_numbers};
+ghost use Rattle.tuffaleen_c.specs.Host.{fields_size, header_numbers, tper_numbers, found_numbers, key_per_io_numbers, numbers_of};
 
-use rules::{DiscoveryHeader, KeyPerIo, KeyPerIoFound, TperFound, VENDOR_SPECIFIC_SIZE};
+use rules::{Discovered, DiscoveryHeader, KeyPerIo, Tper, VENDOR_SPECIFIC_SIZE};
 
 // A place for each number of the header, and of each feature one more: whether it was found.
 const HEADER_PLACES: usize = 1 + VENDOR_SPECIFIC_SIZE;
@@ -55,12 +55,12 @@ fn header_numbers(h: DiscoveryHeader) -> [u32; HEADER_PLACES]
     numbers
 }
 
-fn tper_numbers(t: TperFound) -> [u32; TPER_PLACES]
+fn tper_numbers(t: Option<Tper>) -> [u32; TPER_PLACES]
     ensures { result ≡ tper_numbers t }
 {
     match t {
-        TperFound::Absent => [0u32; TPER_PLACES],
-        TperFound::Found(t) => [
+        None => [0u32; TPER_PLACES],
+        Some(t) => [
             1,
             t.version as u32,
             t.com_id_mgmt_supported as u32,
@@ -111,23 +111,23 @@ fn found_numbers(k: KeyPerIo) -> [u32; KEY_PER_IO_PLACES]
     ]
 }
 
-fn key_per_io_numbers(k: KeyPerIoFound) -> [u32; KEY_PER_IO_PLACES]
+fn key_per_io_numbers(k: Option<KeyPerIo>) -> [u32; KEY_PER_IO_PLACES]
     ensures { result ≡ key_per_io_numbers k }
 {
     match k {
-        KeyPerIoFound::Absent => [0u32; KEY_PER_IO_PLACES],
-        KeyPerIoFound::Found(k) => found_numbers(k),
+        None => [0u32; KEY_PER_IO_PLACES],
+        Some(k) => found_numbers(k),
     }
 }
 
 // All of them, at the front of the fields.
-pub(crate) fn put(fields: &mut [u32], h: DiscoveryHeader, t: TperFound, k: KeyPerIoFound)
+pub(crate) fn put(fields: &mut [u32], found: Discovered)
     requires { fields_size ≤ length fields.old }
-    ensures { fields.new ≡ (header_numbers h ++ (tper_numbers t ++ key_per_io_numbers k)) ++ drop fields_size fields.old }
+    ensures { fields.new ≡ numbers_of found ++ drop fields_size fields.old }
 {
-    let header = header_numbers(h);
-    let tper = tper_numbers(t);
-    let key_per_io = key_per_io_numbers(k);
+    let header = header_numbers(found.header);
+    let tper = tper_numbers(found.tper);
+    let key_per_io = key_per_io_numbers(found.key_per_io);
     copy(&mut fields[..TPER_AT], &header);
     copy(&mut fields[TPER_AT..KEY_PER_IO_AT], &tper);
     copy(&mut fields[KEY_PER_IO_AT..FIELDS_SIZE], &key_per_io);

@@ -13,10 +13,9 @@ ghost use Rattle.tuffaleen_c.specs.Courier.{c_unwrap};
 
 mod host;
 mod image;
-mod office;
 
 use aes::SCHEDULE;
-use rules::{Answer, KEK_SIZE, Refusal, WRAPPED_SIZE};
+use rules::{Granted, KEK_SIZE, Refusal, WRAPPED_SIZE};
 
 // A fresh drive with this key-encryption key, in an image of the right length.
 pub fn tuffaleen_start(image: &mut [u8], marks: &mut [u8], kek: &[u8; KEK_SIZE]) -> u16
@@ -90,18 +89,15 @@ pub fn tuffaleen_discovery(bytes: &[u8], fields: &mut [u32]) -> u16
     ensures { record { number = result; fields = fields.new } ≡ c_discovery bytes.now fields.old }
 {
     if fields.len() < host::FIELDS_SIZE {
-        return digits::number(Answer::Refused(Refusal::OutputTooShort));
+        return u16::from(Refusal::OutputTooShort);
     }
-    let found = discovery::read(bytes);
-    let answer = found.answer;
-    let header = found.header;
-    let tper = found.tper;
-    let key_per_io = found.key_per_io;
-    if let Answer::Refused(refusal) = answer {
-        return digits::number(Answer::Refused(refusal));
+    match discovery::read(bytes) {
+        Ok(found) => {
+            host::put(fields, found);
+            digits::number(Ok(Granted::Done))
+        }
+        Err(refusal) => u16::from(refusal),
     }
-    host::put(fields, header, tper, key_per_io);
-    digits::number(answer)
 }
 
 // For the key office: the message that brings a key to a slot.
@@ -116,9 +112,16 @@ pub fn tuffaleen_message(
     ensures { record { number = result; bytes = written.new; out = out.new }
         ≡ c_message namespace tag uid.now key.now out.old }
 {
-    let told = kmip::write(namespace, tag, uid, key, out);
-    *written = office::bytes(told);
-    digits::number(office::answer(told))
+    match kmip::write(namespace, tag, uid, key, out) {
+        Ok(n) => {
+            *written = n;
+            digits::number(Ok(Granted::Done))
+        }
+        Err(error) => {
+            *written = 0;
+            u16::from(Refusal::from(error))
+        }
+    }
 }
 
 // For the office that fills a courier's case: the key in the last 32 bytes, wrapped. The round keys go through words of the caller's: of words
@@ -143,7 +146,7 @@ pub fn tuffaleen_unwrap(
         × (words.new ≡ zeros schedule_words) }
 {
     if wrap::unwrap(kek, bytes, words) {
-        return digits::number(Answer::Done);
+        return digits::number(Ok(Granted::Done));
     }
-    digits::number(Answer::Refused(Refusal::IntegrityFailed))
+    u16::from(Refusal::IntegrityFailed)
 }

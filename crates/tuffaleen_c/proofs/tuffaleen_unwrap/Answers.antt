@@ -16,6 +16,6 @@ pub returns : goal.returns
 returns c =
     let a = c.args in (
       c_shut a.kek.now a.bytes.now _ (omega arith) (omega arith) _ (rw c.if-unwrap.false at c.unwrap.ensures.0)
-          c.number-2.ensures,
+          c.from.ensures,
       c.unwrap.ensures.1,
     )

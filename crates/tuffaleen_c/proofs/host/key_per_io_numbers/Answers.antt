@@ -3,9 +3,9 @@
 use Rattle.cells.specs.Cells.{zeros}
 use Rattle.tuffaleen_c.proofs.host.key_per_io_numbers.Goals as goal
 
-pub returns-in-Absent : goal.returns-in-Absent
+pub returns-in-None : goal.returns-in-None
 unfolding zeros
-returns-in-Absent c = rw c.in-Absent.is
+returns-in-None c = rw c.in-None.is
 
-pub returns-in-Found : goal.returns-in-Found
-returns-in-Found c = rw c.in-Found.is c.found_numbers.ensures
+pub returns-in-Some : goal.returns-in-Some
+returns-in-Some c = rw c.in-Some.is c.found_numbers.ensures

@@ -4,10 +4,10 @@ use Rattle.cells.specs.Cells.{zeros}
 use Rattle.tuffaleen_c.specs.Host.{tper_numbers}
 use Rattle.tuffaleen_c.proofs.host.tper_numbers.Goals as goal
 
-pub returns-in-Absent : goal.returns-in-Absent
+pub returns-in-None : goal.returns-in-None
 unfolding tper_numbers zeros
-returns-in-Absent c = rw c.in-Absent.is
+returns-in-None c = rw c.in-None.is
 
-pub returns-in-Found : goal.returns-in-Found
+pub returns-in-Some : goal.returns-in-Some
 unfolding tper_numbers
-returns-in-Found c = rw c.in-Found.is
+returns-in-Some c = rw c.in-Some.is
