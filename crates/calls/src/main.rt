@@ -85,7 +85,8 @@ fn all_lines(rt: &impl Print, keys: &mut Cache, marks: &mut Marks, input: &[u8])
     }
 }
 
-// Reads until the text is full, the input ends or a read fails, and returns how many bytes it put there.
+// Reads until the text is full, the input ends or a read fails, and returns how many bytes it put there. (a) No heap: std's `read_to_end`
+// and `take` fill a Vec.
 fn read_text(rt: &HostRuntime, text: &mut [u8]) -> usize
     ensures { result ≤ length text.new }
 {

@@ -1,5 +1,6 @@
 // The drive: the checks of each frame in the paper's order, and its effects. What needs a sound state is private; what others call refuses
 // an unsound one itself. Key cache and mark store are lent, at any length, and never copied.
+// (d) Registers, cache and marks go side by side: a struct of them holds `&mut`s, and each clause has to say that they stay the caller's.
 #![tactic(auto)]
 
 ghost use Rattle.std.specs.Prelude.{◌≡◌, ◌≤◌, length};

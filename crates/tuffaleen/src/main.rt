@@ -19,6 +19,7 @@ fn print(rt: &HostRuntime, answers: &[u8]) {
 }
 
 // Reads until the text is full or the input ends, and returns how many bytes it put there. A read that fails ends the input too, and is told.
+// (a) No heap: std's `read_to_end` and `take` fill a Vec.
 fn read_text(rt: &HostRuntime, text: &mut [u8]) -> usize
     ensures { result ≤ length text.new }
 {

@@ -1,7 +1,7 @@
 -- What was written stands in the output.
 use Rattle.std.proofs.Common.{◌≡◌, ◌≤◌, List, length, sym, ℕ}
 use Rattle.std.proofs.lemmas.List.{length-take-le}
-use Rattle.rules.specs.declared.Answer.{Answer}
+use Rattle.rules.specs.Answer.{Answer}
 use Rattle.digits.specs.Digits.{Wrote, wrote}
 use Rattle.digits.proofs.WritingLaws.{wrote_fits}
 use Rattle.tuffaleen.proofs.print_refusal.Goals as goal
