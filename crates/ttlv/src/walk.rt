@@ -9,8 +9,8 @@ use crate::{DEEPEST, Front, ITEM_HEAD, Numbers, ReadError, item_at};
 // The bytes themselves are one more level.
 const LEVELS: usize = DEEPEST + 1;
 
-// Where a walk stands between two items. The ends of the open structures, that of the bytes first, are the first `levels` of an array:
-// (a) memory is fixed.
+// Where a walk stands between two items, with the ends of the open structures, that of the bytes first.
+// (a) Memory is fixed: the ends are the first `levels` of an array.
 #[derive(Drop)]
 pub(crate) struct Walk<'a> {
     pub bytes: &'a [u8],
