@@ -9,6 +9,11 @@ use native.Mathlib.Omega.{arith}
 use native.Mathlib.Numerals.{add-one}
 use lib.ListN.{length, take, drop, replicate, drop_of_length-le, length-drop}
 use lib.Seq.{length-take-le}
+use denote.Bor.{Bor}
+use lib.Pointwise.{pointwise}
+use Rattle.std.specs.Prelude.{Option, Some, None}
+use Rattle.std.specs.Option.{MatchOption, option_eq}
+use Rattle.std.specs.Array.{IsWholeChunk}
 use Rattle.std.specs.List.{list_any}
 use Rattle.std.specs.Simd.{first_chunks}
 use Rattle.std.proofs.lemmas.Nat.{div-add-mod'}
@@ -22,7 +27,8 @@ use Rattle.marks.specs.Runs.{run, one_differs}
 use Rattle.marks.specs.Store.{in_store, some_differs, marked}
 use borrow.Author.Tests.{eq-eqb, eqb-true, leb-true}
 use lib.Dec.{eqb, leb}
-use Rattle.cells.proofs.PredicatesLaws.{and_left, and_right}
+use Rattle.cells.specs.Predicates.{same}
+use Rattle.cells.proofs.PredicatesLaws.{and_left, and_right, same_eq, pointwise_same, to_false}
 
 -- ------------------------------------------------------------------------
 -- Cells of one list's bytes, set one by one
@@ -43,6 +49,13 @@ set_all w v xs whole =
 
 -- ------------------------------------------------------------------------
 -- Whether one differs
+
+-- a mark against an identity as an array, which one of another length is not
+pub array_same : (identity : List ℕ) (mark : Bor (List ℕ)) (array : Option (Bor (List ℕ))) → length mark.now ≡ mark_width
+    → MatchOption array (length identity ≡ mark_width → ⊥) (λ y. IsWholeChunk identity y.now mark_width)
+    → option_eq (λ (x : Bor (List ℕ)) (y : Bor (List ℕ)). pointwise eqb x.now y.now) (Some mark) array ≡ same mark.now identity
+array_same identity mark None size wrong = to_false _ (λ e. wrong (sym (ap length (same_eq _ _ e)) ∙ size))
+array_same identity mark (Some y) size is = pointwise_same mark.now y.now ∙ ap (same mark.now) is.same
 
 none_differs : (n : ℕ) (v : List ℕ) → list_any (λ m. differs v m) (replicate n v) ≡ false
 none_differs zero v = refl

@@ -27,11 +27,11 @@ fn in_store(marks: &[u8], first: usize, n: usize) -> bool
     marks.len() == STORE_SIZE && first <= MARK_PLACES && n <= MARK_PLACES - first
 }
 
-// Whether the block has been written and its mark differs from this identity.
+// Whether the block has been written and its mark differs from this identity. As arrays the two are compared without a call.
 fn mark_differs(mark: &Mark, identity: &[u8]) -> bool
     ensures { result ≡ differs identity.now mark.now }
 {
-    mark[0] != 0 && mark.as_slice() != identity
+    mark[0] != 0 && Some(mark) != identity.as_array()
 }
 
 // Whether one of these marks differs, one by one.
