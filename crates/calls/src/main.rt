@@ -49,7 +49,7 @@ fn one_call(
     numbers: &[u8],
 ) -> Registers {
     let n = text::numbers(numbers);
-    if word == b"start" {
+    if word == b"start".as_slice() {
         return call::start(rt, keys, marks, n[0], CACHE_SIZE.saturating_sub(n[1]));
     }
     let setting = if numbers.is_empty() {

@@ -9,5 +9,5 @@ pub returns : goal.returns
 returns c =
     let counts = c.args.counts.now in
     let size : length counts ≡ namespaces = search rules in
-    let none = total_end 0 counts c.loop-n.n-index (omega arith) in
+    let none = total_end counts c.loop-n.n-index (omega arith) in
     (omega arith, omega arith)
