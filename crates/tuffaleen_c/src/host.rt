@@ -1,5 +1,5 @@
 // What a host finds in a discovery response, as numbers at the places that include/tuffaleen.h names.
-ghost use Rattle.std.specs.Prelude.{◌≡◌, cond, ◌++◌, ◌≤◌, length, drop, eqb};
+ghost use Rattle.std.specs.Prelude.{◌≡◌, ◌++◌, ◌≤◌, length, drop};
 ghost use Rattle.tuffaleen_c.specs.Host.{fields_size, header_numbers, tper_numbers, found_numbers, key_per_io_numbers, numbers_of};
 
 use rules::{Discovered, DiscoveryHeader, KeyPerIo, Tper, VENDOR_SPECIFIC_SIZE};
@@ -17,41 +17,12 @@ const KEY_PER_IO_AT: usize = TPER_AT + TPER_PLACES;
 
 pub(crate) const FIELDS_SIZE: usize = KEY_PER_IO_AT + KEY_PER_IO_PLACES;
 
-// The bytes of src as numbers, in a part as long; a part of another length stays.
-fn widen(part: &mut [u32], src: &[u8])
-    ensures { part.new ≡ cond (eqb (length part.old) (length src.now)) src.now part.old }
-{
-    if part.len() != src.len() {
-        return;
-    }
-    let mut i = 0;
-    while i < src.len() {
-        part[i] = src[i] as u32;
-        i += 1;
-    }
-}
-
-// The numbers of src, likewise.
-fn copy(part: &mut [u32], src: &[u32])
-    ensures { part.new ≡ cond (eqb (length part.old) (length src.now)) src.now part.old }
-{
-    if part.len() != src.len() {
-        return;
-    }
-    let mut i = 0;
-    while i < src.len() {
-        part[i] = src[i];
-        i += 1;
-    }
-}
-
 fn header_numbers(h: DiscoveryHeader) -> [u32; HEADER_PLACES]
     ensures { result ≡ header_numbers h }
 {
-    let vendor_specific = h.vendor_specific;
-    let mut numbers = [0u32; HEADER_PLACES];
+    let mut numbers = [0; HEADER_PLACES];
     numbers[0] = h.data_structure_revision;
-    widen(&mut numbers[1..HEADER_PLACES], &vendor_specific);
+    numbers[1..].copy_from_slice(&h.vendor_specific.map(u32::from));
     numbers
 }
 
@@ -59,7 +30,7 @@ fn tper_numbers(t: Option<Tper>) -> [u32; TPER_PLACES]
     ensures { result ≡ tper_numbers t }
 {
     match t {
-        None => [0u32; TPER_PLACES],
+        None => [0; TPER_PLACES],
         Some(t) => [
             1,
             t.version as u32,
@@ -115,7 +86,7 @@ fn key_per_io_numbers(k: Option<KeyPerIo>) -> [u32; KEY_PER_IO_PLACES]
     ensures { result ≡ key_per_io_numbers k }
 {
     match k {
-        None => [0u32; KEY_PER_IO_PLACES],
+        None => [0; KEY_PER_IO_PLACES],
         Some(k) => found_numbers(k),
     }
 }
@@ -125,10 +96,7 @@ pub(crate) fn put(fields: &mut [u32], found: Discovered)
     requires { fields_size ≤ length fields.old }
     ensures { fields.new ≡ numbers_of found ++ drop fields_size fields.old }
 {
-    let header = header_numbers(found.header);
-    let tper = tper_numbers(found.tper);
-    let key_per_io = key_per_io_numbers(found.key_per_io);
-    copy(&mut fields[..TPER_AT], &header);
-    copy(&mut fields[TPER_AT..KEY_PER_IO_AT], &tper);
-    copy(&mut fields[KEY_PER_IO_AT..FIELDS_SIZE], &key_per_io);
+    fields[..TPER_AT].copy_from_slice(&header_numbers(found.header));
+    fields[TPER_AT..KEY_PER_IO_AT].copy_from_slice(&tper_numbers(found.tper));
+    fields[KEY_PER_IO_AT..FIELDS_SIZE].copy_from_slice(&key_per_io_numbers(found.key_per_io));
 }

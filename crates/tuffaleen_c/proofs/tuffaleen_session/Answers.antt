@@ -1,24 +1,28 @@
 -- `tuffaleen_session` meets its contract: the registers out of the image, `drive::answer_session` on the cache
--- where it lies, and the registers back to the front.
+-- where it lies, and the registers back to the front; or the drive with no cache.
 -- Assumes nothing.
-use Rattle.tuffaleen_c.proofs.ImageLaws.{call_lends, lent_within, back_size, c_session_lem}
+use Rattle.tuffaleen_c.proofs.ImageLaws.{is_image, keys_within, back_size, ran_nowhere, ran_in}
+use Rattle.tuffaleen_c.proofs.tuffaleen_session.Goals.{in-Some, in-None}
 use Rattle.tuffaleen_c.proofs.tuffaleen_session.Goals as goal
 
-pub slice_bounds-answer_session-count : goal.slice_bounds-answer_session-count
-slice_bounds-answer_session-count c =
-    lent_within (call_lends c.args.image.now c.no_image-none.ensures c.keys_at-at.ensures)
+pub slice_bounds-keys-count : goal.slice_bounds-keys-count
+slice_bounds-keys-count c = keys_within c.args.image.now (is_image _ c.in-Some.ensures.0).size
 
-pub slice_bounds-answer_session-start : goal.slice_bounds-answer_session-start
-slice_bounds-answer_session-start c =
-    lent_within (call_lends c.args.image.now c.no_image-none.ensures c.keys_at-at.ensures)
+pub slice_bounds-keys-start : goal.slice_bounds-keys-start
+slice_bounds-keys-start c = keys_within c.args.image.now (is_image _ c.in-Some.ensures.0).size
 
 pub save-requires : goal.save-requires
-save-requires c =
-    let lends = call_lends c.args.image.now c.no_image-none.ensures c.keys_at-at.ensures in
-    back_size lends c.answer_session-reply.new.keys c.answer_session-reply.auto.keys
+save-requires c = back_size c.args.image.now (is_image _ c.in-Some.ensures.0).size _ c.answer_session-reply.auto.keys
 
 pub returns : goal.returns
 returns c =
     let a = c.args in
-    c_session_lem a.image.now a.marks.now c.no_image-none.ensures c.keys_at-at.ensures c.registers_in-registers.ensures a.text.now a.out.now
-    c.answer_session-reply.ensures (c.answer_session-reply.auto.keys, c.save.ensures) c.number.ensures
+    rw c.number.ensures
+    (elim c.match-registers_in.branch [
+      | in-Some w ↦
+          rw (w.image-is, w.marks-is, w.out-is, w.reply-is)
+          (ran_in a.image.now a.marks.now w.in-Some.ensures a.text.now a.out.now w.answer_session-reply.ensures w.save.ensures)
+      | in-None w ↦
+          rw (w.image-is, w.marks-is, w.out-is, w.reply-is)
+          (ran_nowhere a.image.now a.marks.now w.in-None.ensures w.no_registers.ensures a.text.now a.out.now w.answer_session-reply-in-None.ensures)
+    ])
