@@ -26,6 +26,7 @@ fn header_numbers(h: DiscoveryHeader) -> [u32; HEADER_PLACES]
     numbers
 }
 
+#[tactic(auto, unfolding(crate::specs::Host::tper_numbers, cells::specs::Cells::zeros))]
 fn tper_numbers(t: Option<Tper>) -> [u32; TPER_PLACES]
     ensures { result ≡ tper_numbers t }
 {
@@ -33,55 +34,57 @@ fn tper_numbers(t: Option<Tper>) -> [u32; TPER_PLACES]
         None => [0; TPER_PLACES],
         Some(t) => [
             1,
-            t.version as u32,
-            t.com_id_mgmt_supported as u32,
-            t.streaming_supported as u32,
-            t.buffer_mgmt_supported as u32,
-            t.ack_nack_supported as u32,
-            t.async_supported as u32,
-            t.sync_supported as u32,
+            u32::from(t.version),
+            u32::from(t.com_id_mgmt_supported),
+            u32::from(t.streaming_supported),
+            u32::from(t.buffer_mgmt_supported),
+            u32::from(t.ack_nack_supported),
+            u32::from(t.async_supported),
+            u32::from(t.sync_supported),
         ],
     }
 }
 
+#[tactic(auto, unfolding(crate::specs::Host::found_numbers))]
 fn found_numbers(k: KeyPerIo) -> [u32; KEY_PER_IO_PLACES]
     ensures { result ≡ found_numbers k }
 {
     [
         1,
-        k.feature_descriptor_version as u32,
-        k.ssc_minor_version as u32,
-        k.protocol_01_base_com_id as u32,
-        k.protocol_01_number_of_com_ids as u32,
-        k.protocol_03_base_com_id as u32,
-        k.protocol_03_number_of_com_ids as u32,
-        k.initial_pin_indicator as u32,
-        k.behavior_of_pin_upon_revert as u32,
-        k.number_of_admin_authorities as u32,
-        k.replay_protection_enabled as u32,
-        k.replay_protection_supported as u32,
-        k.incorrect_key_detection_supported as u32,
-        k.shared_tweak_key_required as u32,
-        k.scope as u32,
-        k.enabled as u32,
-        k.maximum_key_uid_length as u32,
-        k.kmip_key_injection_supported as u32,
-        k.rsa_oaep_supported as u32,
-        k.aes_gcm_supported as u32,
-        k.aes_kw_supported as u32,
-        k.aes_256_wrapping_key_supported as u32,
-        k.rsa4k_wrapping_key_supported as u32,
-        k.rsa3k_wrapping_key_supported as u32,
-        k.rsa2k_wrapping_key_supported as u32,
-        k.pki_kek_transport_supported as u32,
-        k.plaintext_kek_provisioning_supported as u32,
+        u32::from(k.feature_descriptor_version),
+        u32::from(k.ssc_minor_version),
+        u32::from(k.protocol_01_base_com_id),
+        u32::from(k.protocol_01_number_of_com_ids),
+        u32::from(k.protocol_03_base_com_id),
+        u32::from(k.protocol_03_number_of_com_ids),
+        u32::from(k.initial_pin_indicator),
+        u32::from(k.behavior_of_pin_upon_revert),
+        u32::from(k.number_of_admin_authorities),
+        u32::from(k.replay_protection_enabled),
+        u32::from(k.replay_protection_supported),
+        u32::from(k.incorrect_key_detection_supported),
+        u32::from(k.shared_tweak_key_required),
+        u32::from(k.scope),
+        u32::from(k.enabled),
+        u32::from(k.maximum_key_uid_length),
+        u32::from(k.kmip_key_injection_supported),
+        u32::from(k.rsa_oaep_supported),
+        u32::from(k.aes_gcm_supported),
+        u32::from(k.aes_kw_supported),
+        u32::from(k.aes_256_wrapping_key_supported),
+        u32::from(k.rsa4k_wrapping_key_supported),
+        u32::from(k.rsa3k_wrapping_key_supported),
+        u32::from(k.rsa2k_wrapping_key_supported),
+        u32::from(k.pki_kek_transport_supported),
+        u32::from(k.plaintext_kek_provisioning_supported),
         k.number_of_key_encryption_keys,
         k.total_number_of_key_tags,
-        k.maximum_key_tags_per_namespace as u32,
-        k.nonce_length as u32,
+        u32::from(k.maximum_key_tags_per_namespace),
+        u32::from(k.nonce_length),
     ]
 }
 
+#[tactic(auto, unfolding(cells::specs::Cells::zeros))]
 fn key_per_io_numbers(k: Option<KeyPerIo>) -> [u32; KEY_PER_IO_PLACES]
     ensures { result ≡ key_per_io_numbers k }
 {
