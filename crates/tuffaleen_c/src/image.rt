@@ -22,6 +22,7 @@ pub(crate) fn no_registers() -> Registers
     }
 }
 
+#[tactic(auto, using(crate::proofs::ImageLaws::lock_told))]
 fn lock_in(byte: u8) -> Option<Lock>
     ensures { MatchOption result (no_lock byte ≡ true) (λ lock. (no_lock byte ≡ false) × (lock ≡ lock_of byte)) }
 {

@@ -104,6 +104,7 @@ pub fn tuffaleen_discovery(bytes: &[u8], fields: &mut [u32]) -> u16
 }
 
 // For the key office: the message that brings a key to a slot.
+#[tactic(auto, unfolding(crate::specs::Office::c_message))]
 pub fn tuffaleen_message(
     namespace: u8,
     tag: u16,
