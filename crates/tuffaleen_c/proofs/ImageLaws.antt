@@ -5,6 +5,8 @@ use Rattle.std.proofs.Common.{◌≡◌, ◌≢◌, refl, sym, ap, ◌∙◌, tr
 use Rattle.std.proofs.Common.{ℕ, zero, suc, ◌+◌, ◌-◌, ◌≤◌, arith}
 use Rattle.std.proofs.Common.{Result, Ok, Err, MatchResult, MatchOption}
 use Rattle.std.specs.Result.{result_ok}
+use Rattle.std.specs.Borrow.{MutBor}
+use Rattle.tuffaleen_c.specs.Lending.{Lent}
 use lib.ListN.{length, take, drop, set, length-append, length-drop, length-set}
 use lib.Seq.{length-take-le, drop_at, append_snoc}
 use borrow.Author.Tests.{eq-eqb, ne_eqb, lt-ltb, eqb-true, not-false}
@@ -20,7 +22,7 @@ use Rattle.rules.specs.Locks.{lock_value}
 use Rattle.rules.specs.Start.{fresh_registers, start}
 use Rattle.rules.specs.Call.{Called, call}
 use Rattle.rules.specs.Sessions.{Session, session}
-use Rattle.tuffaleen_c.specs.Image.{registers_size, image_size, lock_of, no_lock, lock_byte0, lock_byte1, wrong_length, no_image, registers_in}
+use Rattle.tuffaleen_c.specs.Image.{registers_size, image_size, lock_of, no_lock, lock_byte0, lock_byte1, wrong_length, no_image, registers_in, keys_in, saved}
 use Rattle.tuffaleen_c.specs.Image.{state_in, registers_bytes, image_of, CStarted, c_start, CCalled, c_call, CSession, c_session}
 
 -- ------------------------------------------------------------------------
@@ -148,45 +150,56 @@ module _ (image marks kek : List ℕ) {o : Outcome} {n : ℕ} (told : n ≡ numb
       rw (told, saved ∙ saved_back image size o.state, done_in, eq-eqb (length image) image_size size)
 
 -- what the drive is asked with
-abbrev asked : Registers → List ℕ → List ℕ → State
+abbrev pub asked : Registers → List ℕ → List ℕ → State
 asked registers keys marks = record { registers = registers; keys = keys; marks = marks }
 
-abbrev told_line : Called → List ℕ → CCalled
+abbrev pub told_line : Called → List ℕ → CCalled
 told_line c left = record { number = number c.answer; image = left; marks = c.state.marks; bytes = c.bytes; out = c.out }
 
-abbrev told_text : Session → List ℕ → CSession
+abbrev pub told_text : Session → List ℕ → CSession
 told_text c left = record { number = number c.result; image = left; marks = c.state.marks; lines = c.lines; bytes = c.bytes; out = c.out }
 
-module _ (image marks : List ℕ) {registers : Registers} (none : no_image image ≡ true) (were : registers ≡ fresh_registers) where
-  nowhere : asked registers [] marks ≡ state_in image marks
+module _ (image marks : List ℕ) {shown : List ℕ} (shows : shown ≡ keys_in (no_image image) image) where
+  abbrev pub lent_state : State
+  lent_state = asked (registers_in (no_image image) image) shown marks
+
+  from : lent_state ≡ state_in image marks
+  from = ap (λ k. asked (registers_in (no_image image) image) k marks) shows
+
+  pub line_told : (line out : List ℕ) (c : Called) {left : List ℕ} → c ≡ call lent_state line out
+      → left ≡ saved (no_image image) image (asked c.state.registers c.state.keys []) → told_line c left ≡ c_call image marks line out
+  unfolding c_call image_of
+  line_told line out c done saves = rw (saves, done ∙ ap (λ s. call s line out) from)
+
+  pub text_told : (text out : List ℕ) (c : Session) {left : List ℕ} → c ≡ session lent_state text out
+      → left ≡ saved (no_image image) image (asked c.state.registers c.state.keys []) → told_text c left ≡ c_session image marks text out
+  unfolding c_session image_of
+  text_told text out c done saves = rw (saves, done ∙ ap (λ s. session s text out) from)
+
+-- one call on what is no image, and on an image
+module _ {F R : Type 0} {step : F → Registers → MutBor (List ℕ) → Registers × R → MutBor (List ℕ) → F → Type 0} {f f' : F} (image : List ℕ) where
+  pub lent_none : {registers : Registers} (shown keys : MutBor (List ℕ)) (r : Registers × R) → no_image image ≡ true → registers ≡ fresh_registers
+      → step f registers shown r keys f' → shown.now ≡ [] → Lent step f image r.1 image f'
   unfolding registers_in
-  nowhere = rw (none, were)
+  lent_none shown keys r none were met shows = record {
+    registers = r.0;
+    shown = shown;
+    keys = keys;
+    shows = rw none shows;
+    met = rw (none, ← were) met;
+    saves = rw none;
+  }
 
-  pub called_nowhere : (line out : List ℕ) {c : Called} → c ≡ call (asked registers [] marks) line out
-      → told_line c image ≡ c_call image marks line out
-  unfolding c_call
-  called_nowhere line out done = rw (done ∙ ap (λ s. call s line out) nowhere, none)
-
-  pub ran_nowhere : (text out : List ℕ) {c : Session} → c ≡ session (asked registers [] marks) text out
-      → told_text c image ≡ c_session image marks text out
-  unfolding c_session
-  ran_nowhere text out done = rw (done ∙ ap (λ s. session s text out) nowhere, none)
-
-module _ (image marks : List ℕ) {registers : Registers} (some : (no_image image ≡ false) × (registers ≡ registers_in false image)) where
-  inside : asked registers (lent image) marks ≡ state_in image marks
-  inside = rw (some.0, some.1, lent_rest registers_size image)
-
-  size_of : length image ≡ image_size
-  size_of = (is_image image some.0).size
-
-  pub called_in : (line out : List ℕ) {c : Called} {left : List ℕ} → c ≡ call (asked registers (lent image) marks) line out
-      → Saved image c.state left → told_line c left ≡ c_call image marks line out
-  unfolding c_call
-  called_in line out {c} done saved =
-      rw (saved ∙ saved_back image size_of c.state, done ∙ ap (λ s. call s line out) inside, some.0)
-
-  pub ran_in : (text out : List ℕ) {c : Session} {left : List ℕ} → c ≡ session (asked registers (lent image) marks) text out
-      → Saved image c.state left → told_text c left ≡ c_session image marks text out
-  unfolding c_session
-  ran_in text out {c} done saved =
-      rw (saved ∙ saved_back image size_of c.state, done ∙ ap (λ s. session s text out) inside, some.0)
+  pub lent_some : {registers : Registers} (shown keys : MutBor (List ℕ)) (r : Registers × R) {left : List ℕ}
+      → (no_image image ≡ false) × (registers ≡ registers_in false image) → step f registers shown r keys f' → shown.now ≡ lent image
+      → left ≡ registers_bytes r.0 ++ drop registers_size (back image keys.now) → Lent step f image r.1 left f'
+  lent_some shown keys r some met shows saves =
+      let size = (is_image image some.0).size in
+      record {
+        registers = r.0;
+        shown = shown;
+        keys = keys;
+        shows = rw some.0 (shows ∙ lent_rest registers_size image);
+        met = rw (some.0, ← some.1) met;
+        saves = rw some.0 (saves ∙ saved_back image size (record { registers = r.0; keys = keys.now; marks = [] }));
+      }

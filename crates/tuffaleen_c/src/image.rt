@@ -3,6 +3,8 @@ ghost use Rattle.std.specs.Prelude.{◌≡◌, true, false, ◌++◌, length, dr
 ghost use Rattle.rules.specs.Start.{fresh_registers};
 ghost use Rattle.tuffaleen_c.specs.Image.{registers_size, image_size, lock_of, no_lock, no_image, registers_in, registers_bytes};
 
+ghost use Rattle.tuffaleen_c.specs.Lending.{Lent};
+
 use rules::{BootLocks, CACHE_SIZE, Lock, NAMESPACES, Registers};
 
 const PARTITIONS: usize = 2;
@@ -58,4 +60,23 @@ pub(crate) fn save(image: &mut [u8], registers: Registers)
     image[..NAMESPACES].copy_from_slice(&registers.counts);
     image[NAMESPACES] = u8::from(registers.locks.partition0);
     image[NAMESPACES + 1] = u8::from(registers.locks.partition1);
+}
+
+// Has a call made with an image's registers and its cache, lent where it lies, and saves the registers that it hands back. What is no image
+// has no cache, and stays.
+pub(crate) fn lend<R, F: FnMut(Registers, &mut [u8]) -> (Registers, R)>(
+    image: &mut [u8],
+    call: &mut F,
+) -> R
+    requires { F.IsAlwaysCallable call.old }
+    ensures { Lent F.step call.old image.old result image.new call.new }
+{
+    match registers_in(image) {
+        Some(registers) => {
+            let (registers, reply) = call(registers, &mut image[REGISTERS_SIZE..]);
+            save(image, registers);
+            reply
+        }
+        None => call(no_registers(), &mut []).1,
+    }
 }

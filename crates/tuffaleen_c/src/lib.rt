@@ -41,15 +41,10 @@ pub fn tuffaleen_line(
     ensures { record { number = result; image = image.new; marks = marks.new; bytes = written.new; out = out.new }
         ≡ c_call image.old marks.old line.now out.old }
 {
-    let reply = match image::registers_in(image) {
-        Some(registers) => {
-            let keys = &mut image[image::REGISTERS_SIZE..];
-            let reply = drive::answer_line(registers, keys, marks, line, out);
-            image::save(image, reply.registers);
-            reply
-        }
-        None => drive::answer_line(image::no_registers(), &mut [], marks, line, out),
-    };
+    let reply = image::lend(image, &mut |registers, keys| {
+        let reply = drive::answer_line(registers, keys, marks, line, out);
+        (reply.registers, reply)
+    });
     *written = reply.bytes;
     digits::number(reply.answer)
 }
@@ -73,15 +68,10 @@ pub fn tuffaleen_session(
     }
         ≡ c_session image.old marks.old text.now out.old }
 {
-    let reply = match image::registers_in(image) {
-        Some(registers) => {
-            let keys = &mut image[image::REGISTERS_SIZE..];
-            let reply = drive::answer_session(registers, keys, marks, text, out);
-            image::save(image, reply.registers);
-            reply
-        }
-        None => drive::answer_session(image::no_registers(), &mut [], marks, text, out),
-    };
+    let reply = image::lend(image, &mut |registers, keys| {
+        let reply = drive::answer_session(registers, keys, marks, text, out);
+        (reply.registers, reply)
+    });
     *lines = reply.lines;
     *written = reply.bytes;
     digits::number(reply.result)

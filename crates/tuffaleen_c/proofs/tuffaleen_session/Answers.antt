@@ -1,28 +1,18 @@
--- `tuffaleen_session` meets its contract: the registers out of the image, `drive::answer_session` on the cache
--- where it lies, and the registers back to the front; or the drive with no cache.
+-- `tuffaleen_session` meets its contract: `drive::answer_session` on what is lent of the image.
 -- Assumes nothing.
-use Rattle.tuffaleen_c.proofs.ImageLaws.{is_image, keys_within, back_size, ran_nowhere, ran_in}
-use Rattle.tuffaleen_c.proofs.tuffaleen_session.Goals.{in-Some, in-None}
+use Rattle.std.proofs.Common.{◌≡◌, rules}
+use Rattle.rules.specs.Sessions.{Session, session}
+use Rattle.tuffaleen_c.specs.Image.{no_image, registers_in}
+use Rattle.tuffaleen_c.proofs.ImageLaws.{asked, text_told}
 use Rattle.tuffaleen_c.proofs.tuffaleen_session.Goals as goal
-
-pub slice_bounds-keys-count : goal.slice_bounds-keys-count
-slice_bounds-keys-count c = keys_within c.args.image.now (is_image _ c.in-Some.ensures.0).size
-
-pub slice_bounds-keys-start : goal.slice_bounds-keys-start
-slice_bounds-keys-start c = keys_within c.args.image.now (is_image _ c.in-Some.ensures.0).size
-
-pub save-requires : goal.save-requires
-save-requires c = back_size c.args.image.now (is_image _ c.in-Some.ensures.0).size _ c.answer_session-reply.auto.keys
 
 pub returns : goal.returns
 returns c =
     let a = c.args in
-    rw c.number.ensures
-    (elim c.match-registers_in.branch [
-      | in-Some w ↦
-          rw (w.image-is, w.marks-is, w.out-is, w.reply-is)
-          (ran_in a.image.now a.marks.now w.in-Some.ensures a.text.now a.out.now w.answer_session-reply.ensures w.save.ensures)
-      | in-None w ↦
-          rw (w.image-is, w.marks-is, w.out-is, w.reply-is)
-          (ran_nowhere a.image.now a.marks.now w.in-None.ensures w.no_registers.ensures a.text.now a.out.now w.answer_session-reply-in-None.ensures)
-    ])
+    let r = c.lend-reply.result in
+    let l = c.lend-reply.ensures in
+    let marks : c.marks-1.given.0 ≡ c.lend-reply.new.call.0.now = search rules in
+    let out : c.out-1.given.0 ≡ c.lend-reply.new.call.2.now = search rules in
+    let left : Session = record { result = r.result; lines = r.lines; state = asked l.registers l.keys.now c.lend-reply.new.call.0.now; bytes = r.bytes; out = c.lend-reply.new.call.2.now } in
+    let done : left ≡ session (asked (registers_in (no_image a.image.now) a.image.now) l.shown.now a.marks.now) a.text.now a.out.now = search rules in
+    rw (c.number.ensures, marks, out) (text_told a.image.now a.marks.now l.shows a.text.now a.out.now left done l.saves)
