@@ -7,7 +7,7 @@ use Rattle.std.proofs.Common.{Result, Ok, Err, MatchResult, MatchOption}
 use Rattle.std.specs.Result.{result_ok}
 use Rattle.std.specs.Borrow.{MutBor}
 use Rattle.tuffaleen_c.specs.Lending.{Lent}
-use lib.ListN.{length, take, drop, set, length-append, length-drop, length-set}
+use lib.ListN.{length, take, drop, set, length-append, length-drop}
 use lib.Seq.{length-take-le, drop_at, append_snoc}
 use borrow.Author.Tests.{eq-eqb, ne_eqb, lt-ltb, eqb-true, not-false}
 use Rattle.cells.proofs.CellsLaws.{grow, lent_rest, back_rest}
@@ -85,12 +85,6 @@ is_image image e =
 -- The registers written to the front: the counts, then the first lock byte and the second
 
 module _ (image counts : List ℕ) (size : length image ≡ image_size) (four : length counts ≡ namespaces) where
-  pub length_counted : length (counts ++ drop namespaces image) ≡ image_size
-  length_counted = simp (length-append, length-drop) (omega arith)
-
-  pub length_headed : (a : ℕ) → length (set (counts ++ drop namespaces image) namespaces a) ≡ image_size
-  length_headed a = simp length-set length_counted
-
   pub registers_front : (a b : ℕ)
       → set (set (counts ++ drop namespaces image) namespaces a) (namespaces + 1) b ≡ (counts ++ (a ∷ b ∷ [])) ++ drop registers_size image
   registers_front a b =
@@ -153,35 +147,32 @@ module _ (image marks kek : List ℕ) {o : Outcome} {n : ℕ} (told : n ≡ numb
 abbrev pub asked : Registers → List ℕ → List ℕ → State
 asked registers keys marks = record { registers = registers; keys = keys; marks = marks }
 
-abbrev pub told_line : Called → List ℕ → CCalled
-told_line c left = record { number = number c.answer; image = left; marks = c.state.marks; bytes = c.bytes; out = c.out }
-
-abbrev pub told_text : Session → List ℕ → CSession
-told_text c left = record { number = number c.result; image = left; marks = c.state.marks; lines = c.lines; bytes = c.bytes; out = c.out }
-
+-- an answer to what was lent; `n` is its number, and what a closure has captured ends as `m` and `o`
 module _ (image marks : List ℕ) {shown : List ℕ} (shows : shown ≡ keys_in (no_image image) image) where
-  abbrev pub lent_state : State
+  abbrev lent_state : State
   lent_state = asked (registers_in (no_image image) image) shown marks
 
   from : lent_state ≡ state_in image marks
   from = ap (λ k. asked (registers_in (no_image image) image) k marks) shows
 
-  pub line_told : (line out : List ℕ) (c : Called) {left : List ℕ} → c ≡ call lent_state line out
-      → left ≡ saved (no_image image) image (asked c.state.registers c.state.keys []) → told_line c left ≡ c_call image marks line out
+  pub line_told : (line out : List ℕ) (c : Called) {left m o : List ℕ} {n : ℕ} → c ≡ call lent_state line out
+      → left ≡ saved (no_image image) image (asked c.state.registers c.state.keys []) → m ≡ c.state.marks → o ≡ c.out → n ≡ number c.answer
+      → ◌≡◌ {A = CCalled} (record { number = n; image = left; marks = m; bytes = c.bytes; out = o }) (c_call image marks line out)
   unfolding c_call image_of
-  line_told line out c done saves = rw (saves, done ∙ ap (λ s. call s line out) from)
+  line_told line out c done saves ms os told = rw (told, ms, os, saves, done ∙ ap (λ s. call s line out) from)
 
-  pub text_told : (text out : List ℕ) (c : Session) {left : List ℕ} → c ≡ session lent_state text out
-      → left ≡ saved (no_image image) image (asked c.state.registers c.state.keys []) → told_text c left ≡ c_session image marks text out
+  pub text_told : (text out : List ℕ) (c : Session) {left m o : List ℕ} {n : ℕ} → c ≡ session lent_state text out
+      → left ≡ saved (no_image image) image (asked c.state.registers c.state.keys []) → m ≡ c.state.marks → o ≡ c.out → n ≡ number c.result
+      → ◌≡◌ {A = CSession} (record { number = n; image = left; marks = m; lines = c.lines; bytes = c.bytes; out = o }) (c_session image marks text out)
   unfolding c_session image_of
-  text_told text out c done saves = rw (saves, done ∙ ap (λ s. session s text out) from)
+  text_told text out c done saves ms os told = rw (told, ms, os, saves, done ∙ ap (λ s. session s text out) from)
 
 -- one call on what is no image, and on an image
-module _ {F R : Type 0} {step : F → Registers → MutBor (List ℕ) → Registers × R → MutBor (List ℕ) → F → Type 0} {f f' : F} (image : List ℕ) where
-  pub lent_none : {registers : Registers} (shown keys : MutBor (List ℕ)) (r : Registers × R) → no_image image ≡ true → registers ≡ fresh_registers
-      → step f registers shown r keys f' → shown.now ≡ [] → Lent step f image r.1 image f'
+module _ {F R : Type 0} {step : F → Registers → MutBor (List ℕ) → Registers × R → MutBor (List ℕ) → F → Type 0} {f f' : F} (image : List ℕ)
+    {registers : Registers} (shown keys : MutBor (List ℕ)) (r : Registers × R) (met : step f registers shown r keys f') where
+  pub lent_none : no_image image ≡ true → registers ≡ fresh_registers → shown.now ≡ [] → Lent step f image r.1 image f'
   unfolding registers_in
-  lent_none shown keys r none were met shows = record {
+  lent_none none were shows = record {
     registers = r.0;
     shown = shown;
     keys = keys;
@@ -190,16 +181,13 @@ module _ {F R : Type 0} {step : F → Registers → MutBor (List ℕ) → Regist
     saves = rw none;
   }
 
-  pub lent_some : {registers : Registers} (shown keys : MutBor (List ℕ)) (r : Registers × R) {left : List ℕ}
-      → (no_image image ≡ false) × (registers ≡ registers_in false image) → step f registers shown r keys f' → shown.now ≡ lent image
+  pub lent_some : {left : List ℕ} → (no_image image ≡ false) × (registers ≡ registers_in false image) → shown.now ≡ lent image
       → left ≡ registers_bytes r.0 ++ drop registers_size (back image keys.now) → Lent step f image r.1 left f'
-  lent_some shown keys r some met shows saves =
-      let size = (is_image image some.0).size in
-      record {
-        registers = r.0;
-        shown = shown;
-        keys = keys;
-        shows = rw some.0 (shows ∙ lent_rest registers_size image);
-        met = rw (some.0, ← some.1) met;
-        saves = rw some.0 (saves ∙ saved_back image size (record { registers = r.0; keys = keys.now; marks = [] }));
-      }
+  lent_some some shows saves = record {
+    registers = r.0;
+    shown = shown;
+    keys = keys;
+    shows = rw some.0 (shows ∙ lent_rest registers_size image);
+    met = rw (some.0, ← some.1) met;
+    saves = rw some.0 (saves ∙ saved_back image (is_image image some.0).size (asked r.0 keys.now []));
+  }

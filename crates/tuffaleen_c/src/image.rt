@@ -2,7 +2,6 @@
 ghost use Rattle.std.specs.Prelude.{◌≡◌, true, false, ◌++◌, length, drop, MatchOption};
 ghost use Rattle.rules.specs.Start.{fresh_registers};
 ghost use Rattle.tuffaleen_c.specs.Image.{registers_size, image_size, lock_of, no_lock, no_image, registers_in, registers_bytes};
-
 ghost use Rattle.tuffaleen_c.specs.Lending.{Lent};
 
 use rules::{BootLocks, CACHE_SIZE, Lock, NAMESPACES, Registers};
@@ -32,7 +31,7 @@ fn lock_in(byte: u8) -> Option<Lock>
 }
 
 // None in what is no image: another length, or a byte that is no lock's.
-pub(crate) fn registers_in(image: &[u8]) -> Option<Registers>
+fn registers_in(image: &[u8]) -> Option<Registers>
     ensures { MatchOption result
         (no_image image.now ≡ true)
         (λ registers. (no_image image.now ≡ false) × (registers ≡ registers_in false image.now)) }
@@ -62,8 +61,8 @@ pub(crate) fn save(image: &mut [u8], registers: Registers)
     image[NAMESPACES + 1] = u8::from(registers.locks.partition1);
 }
 
-// Has a call made with an image's registers and its cache, lent where it lies, and saves the registers that it hands back. What is no image
-// has no cache, and stays.
+// Makes a call with an image's registers, and with its cache lent where it lies, and saves the registers that it hands back. What is no image
+// stays: the call has no cache then, which the drive refuses in its place.
 pub(crate) fn lend<R, F: FnMut(Registers, &mut [u8]) -> (Registers, R)>(
     image: &mut [u8],
     call: &mut F,

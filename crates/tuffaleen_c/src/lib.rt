@@ -41,10 +41,13 @@ pub fn tuffaleen_line(
     ensures { record { number = result; image = image.new; marks = marks.new; bytes = written.new; out = out.new }
         ≡ c_call image.old marks.old line.now out.old }
 {
-    let reply = image::lend(image, &mut |registers, keys| {
-        let reply = drive::answer_line(registers, keys, marks, line, out);
-        (reply.registers, reply)
-    });
+    let reply = image::lend(
+        image,
+        &mut |registers, keys| {
+            let reply = drive::answer_line(registers, keys, marks, line, out);
+            (reply.registers, reply)
+        },
+    );
     *written = reply.bytes;
     digits::number(reply.answer)
 }
@@ -68,10 +71,13 @@ pub fn tuffaleen_session(
     }
         ≡ c_session image.old marks.old text.now out.old }
 {
-    let reply = image::lend(image, &mut |registers, keys| {
-        let reply = drive::answer_session(registers, keys, marks, text, out);
-        (reply.registers, reply)
-    });
+    let reply = image::lend(
+        image,
+        &mut |registers, keys| {
+            let reply = drive::answer_session(registers, keys, marks, text, out);
+            (reply.registers, reply)
+        },
+    );
     *lines = reply.lines;
     *written = reply.bytes;
     digits::number(reply.result)

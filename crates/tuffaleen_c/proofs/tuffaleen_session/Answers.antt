@@ -9,10 +9,10 @@ use Rattle.tuffaleen_c.proofs.tuffaleen_session.Goals as goal
 pub returns : goal.returns
 returns c =
     let a = c.args in
+    let image = a.image.now in
     let r = c.lend-reply.result in
     let l = c.lend-reply.ensures in
-    let marks : c.marks-1.given.0 ≡ c.lend-reply.new.call.0.now = search rules in
-    let out : c.out-1.given.0 ≡ c.lend-reply.new.call.2.now = search rules in
-    let left : Session = record { result = r.result; lines = r.lines; state = asked l.registers l.keys.now c.lend-reply.new.call.0.now; bytes = r.bytes; out = c.lend-reply.new.call.2.now } in
-    let done : left ≡ session (asked (registers_in (no_image a.image.now) a.image.now) l.shown.now a.marks.now) a.text.now a.out.now = search rules in
-    rw (c.number.ensures, marks, out) (text_told a.image.now a.marks.now l.shows a.text.now a.out.now left done l.saves)
+    let ended = c.lend-reply.new.call in
+    let left : Session = record { result = r.result; lines = r.lines; state = asked l.registers l.keys.now ended.0.now; bytes = r.bytes; out = ended.2.now } in
+    let done : left ≡ session (asked (registers_in (no_image image) image) l.shown.now a.marks.now) a.text.now a.out.now = search rules in
+    text_told image a.marks.now l.shows a.text.now a.out.now left done l.saves (search rules) (search rules) c.number.ensures
