@@ -14,7 +14,7 @@ pub(crate) const IMAGE_SIZE: usize = REGISTERS_SIZE + CACHE_SIZE;
 
 // What the drive is asked with where there is no image: it has no cache then, and refuses.
 #[tactic(auto, unfolding(rules::specs::Start::fresh_registers, cells::specs::Cells::zeros))]
-pub(crate) fn no_registers() -> Registers
+fn no_registers() -> Registers
     ensures { result ≡ fresh_registers }
 {
     Registers {
