@@ -12,8 +12,6 @@ use lib.Seq.{drop-cons, take_at, get_or-append-add, drop-append-add}
 use lib.Dec.{eqb, ltb}
 use borrow.Author.Tests.{ltb-false, eq-eqb}
 use Rattle.cells.proofs.PredicatesLaws.{or_right}
-use Rattle.rules.specs.declared.Lock.{Lock}
-use Rattle.rules.specs.declared.Lock.TheVariants.{WriteUnlocked, WriteLocked, WriteLockedUntilPowerCycle}
 use Rattle.rules.specs.declared.Refusal.{Refusal}
 use Rattle.rules.specs.Answer.{Answer}
 use Rattle.std.specs.Prelude.{Ok, Err}
@@ -35,7 +33,7 @@ use Rattle.tuffaleen_c.specs.Image.{partitions, registers_size, image_size, lock
 use Rattle.tuffaleen_c.specs.Image.{registers_in, keys_in, state_in, image_of, saved, c_start, c_call, c_session}
 use Rattle.tuffaleen_c.specs.ImagePromises.{NoImageUnsound, SameImage, SameState, StartKeeps, StartFresh}
 use Rattle.tuffaleen_c.specs.ImagePromises.{LineRefusedKeepsImage, SessionRefusedKeepsImage, NoImageWritesNothing, NoImageNoSession}
-use Rattle.tuffaleen_c.proofs.ImageLaws.{is_image, right_length}
+use Rattle.tuffaleen_c.proofs.ImageLaws.{is_image, right_length, is_lock}
 
 -- ------------------------------------------------------------------------
 -- An image and its state
@@ -69,11 +67,6 @@ same_image image marks e =
     let is = is_image image e in
     let size = is.size in
     rw (e, same_lock_lem (lock_byte0 image) is.lock0, same_lock_lem (lock_byte1 image) is.lock1) (split image (omega arith))
-
-is_lock : (l : Lock) → (no_lock (lock_value l) ≡ false) × (lock_of (lock_value l) ≡ l)
-is_lock WriteUnlocked = (refl, refl)
-is_lock WriteLocked = (refl, refl)
-is_lock WriteLockedUntilPowerCycle = (refl, refl)
 
 -- what stands behind the first n
 get_d_past : (p q : List ℕ) (n i : ℕ) → length p ≡ n → get_or (p ++ q) (n + i) 0 ≡ get_or q i 0

@@ -3,3 +3,4 @@ pub mod Host
 pub mod ImagePromises
 pub mod Office
 pub mod Courier
+pub mod Lending

@@ -1,5 +1,5 @@
 // What a host finds in a discovery response, as numbers at the places that include/tuffaleen.h names.
-ghost use Rattle.std.specs.Prelude.{◌≡◌, cond, ◌++◌, ◌≤◌, length, drop, eqb};
+ghost use Rattle.std.specs.Prelude.{◌≡◌, ◌++◌, ◌≤◌, length, drop};
 ghost use Rattle.tuffaleen_c.specs.Host.{fields_size, header_numbers, tper_numbers, found_numbers, key_per_io_numbers, numbers_of};
 
 use rules::{Discovered, DiscoveryHeader, KeyPerIo, Tper, VENDOR_SPECIFIC_SIZE};
@@ -17,105 +17,79 @@ const KEY_PER_IO_AT: usize = TPER_AT + TPER_PLACES;
 
 pub(crate) const FIELDS_SIZE: usize = KEY_PER_IO_AT + KEY_PER_IO_PLACES;
 
-// The bytes of src as numbers, in a part as long; a part of another length stays.
-fn widen(part: &mut [u32], src: &[u8])
-    ensures { part.new ≡ cond (eqb (length part.old) (length src.now)) src.now part.old }
-{
-    if part.len() != src.len() {
-        return;
-    }
-    let mut i = 0;
-    while i < src.len() {
-        part[i] = src[i] as u32;
-        i += 1;
-    }
-}
-
-// The numbers of src, likewise.
-fn copy(part: &mut [u32], src: &[u32])
-    ensures { part.new ≡ cond (eqb (length part.old) (length src.now)) src.now part.old }
-{
-    if part.len() != src.len() {
-        return;
-    }
-    let mut i = 0;
-    while i < src.len() {
-        part[i] = src[i];
-        i += 1;
-    }
-}
-
 fn header_numbers(h: DiscoveryHeader) -> [u32; HEADER_PLACES]
     ensures { result ≡ header_numbers h }
 {
-    let vendor_specific = h.vendor_specific;
-    let mut numbers = [0u32; HEADER_PLACES];
+    let mut numbers = [0; HEADER_PLACES];
     numbers[0] = h.data_structure_revision;
-    widen(&mut numbers[1..HEADER_PLACES], &vendor_specific);
+    numbers[1..].copy_from_slice(&h.vendor_specific.map(u32::from));
     numbers
 }
 
+#[tactic(auto, unfolding(crate::specs::Host::tper_numbers, cells::specs::Cells::zeros))]
 fn tper_numbers(t: Option<Tper>) -> [u32; TPER_PLACES]
     ensures { result ≡ tper_numbers t }
 {
     match t {
-        None => [0u32; TPER_PLACES],
+        None => [0; TPER_PLACES],
         Some(t) => [
             1,
-            t.version as u32,
-            t.com_id_mgmt_supported as u32,
-            t.streaming_supported as u32,
-            t.buffer_mgmt_supported as u32,
-            t.ack_nack_supported as u32,
-            t.async_supported as u32,
-            t.sync_supported as u32,
+            u32::from(t.version),
+            u32::from(t.com_id_mgmt_supported),
+            u32::from(t.streaming_supported),
+            u32::from(t.buffer_mgmt_supported),
+            u32::from(t.ack_nack_supported),
+            u32::from(t.async_supported),
+            u32::from(t.sync_supported),
         ],
     }
 }
 
+#[tactic(auto, unfolding(crate::specs::Host::found_numbers))]
 fn found_numbers(k: KeyPerIo) -> [u32; KEY_PER_IO_PLACES]
     ensures { result ≡ found_numbers k }
 {
     [
         1,
-        k.feature_descriptor_version as u32,
-        k.ssc_minor_version as u32,
-        k.protocol_01_base_com_id as u32,
-        k.protocol_01_number_of_com_ids as u32,
-        k.protocol_03_base_com_id as u32,
-        k.protocol_03_number_of_com_ids as u32,
-        k.initial_pin_indicator as u32,
-        k.behavior_of_pin_upon_revert as u32,
-        k.number_of_admin_authorities as u32,
-        k.replay_protection_enabled as u32,
-        k.replay_protection_supported as u32,
-        k.incorrect_key_detection_supported as u32,
-        k.shared_tweak_key_required as u32,
-        k.scope as u32,
-        k.enabled as u32,
-        k.maximum_key_uid_length as u32,
-        k.kmip_key_injection_supported as u32,
-        k.rsa_oaep_supported as u32,
-        k.aes_gcm_supported as u32,
-        k.aes_kw_supported as u32,
-        k.aes_256_wrapping_key_supported as u32,
-        k.rsa4k_wrapping_key_supported as u32,
-        k.rsa3k_wrapping_key_supported as u32,
-        k.rsa2k_wrapping_key_supported as u32,
-        k.pki_kek_transport_supported as u32,
-        k.plaintext_kek_provisioning_supported as u32,
+        u32::from(k.feature_descriptor_version),
+        u32::from(k.ssc_minor_version),
+        u32::from(k.protocol_01_base_com_id),
+        u32::from(k.protocol_01_number_of_com_ids),
+        u32::from(k.protocol_03_base_com_id),
+        u32::from(k.protocol_03_number_of_com_ids),
+        u32::from(k.initial_pin_indicator),
+        u32::from(k.behavior_of_pin_upon_revert),
+        u32::from(k.number_of_admin_authorities),
+        u32::from(k.replay_protection_enabled),
+        u32::from(k.replay_protection_supported),
+        u32::from(k.incorrect_key_detection_supported),
+        u32::from(k.shared_tweak_key_required),
+        u32::from(k.scope),
+        u32::from(k.enabled),
+        u32::from(k.maximum_key_uid_length),
+        u32::from(k.kmip_key_injection_supported),
+        u32::from(k.rsa_oaep_supported),
+        u32::from(k.aes_gcm_supported),
+        u32::from(k.aes_kw_supported),
+        u32::from(k.aes_256_wrapping_key_supported),
+        u32::from(k.rsa4k_wrapping_key_supported),
+        u32::from(k.rsa3k_wrapping_key_supported),
+        u32::from(k.rsa2k_wrapping_key_supported),
+        u32::from(k.pki_kek_transport_supported),
+        u32::from(k.plaintext_kek_provisioning_supported),
         k.number_of_key_encryption_keys,
         k.total_number_of_key_tags,
-        k.maximum_key_tags_per_namespace as u32,
-        k.nonce_length as u32,
+        u32::from(k.maximum_key_tags_per_namespace),
+        u32::from(k.nonce_length),
     ]
 }
 
+#[tactic(auto, unfolding(cells::specs::Cells::zeros))]
 fn key_per_io_numbers(k: Option<KeyPerIo>) -> [u32; KEY_PER_IO_PLACES]
     ensures { result ≡ key_per_io_numbers k }
 {
     match k {
-        None => [0u32; KEY_PER_IO_PLACES],
+        None => [0; KEY_PER_IO_PLACES],
         Some(k) => found_numbers(k),
     }
 }
@@ -125,10 +99,7 @@ pub(crate) fn put(fields: &mut [u32], found: Discovered)
     requires { fields_size ≤ length fields.old }
     ensures { fields.new ≡ numbers_of found ++ drop fields_size fields.old }
 {
-    let header = header_numbers(found.header);
-    let tper = tper_numbers(found.tper);
-    let key_per_io = key_per_io_numbers(found.key_per_io);
-    copy(&mut fields[..TPER_AT], &header);
-    copy(&mut fields[TPER_AT..KEY_PER_IO_AT], &tper);
-    copy(&mut fields[KEY_PER_IO_AT..FIELDS_SIZE], &key_per_io);
+    fields[..TPER_AT].copy_from_slice(&header_numbers(found.header));
+    fields[TPER_AT..KEY_PER_IO_AT].copy_from_slice(&tper_numbers(found.tper));
+    fields[KEY_PER_IO_AT..FIELDS_SIZE].copy_from_slice(&key_per_io_numbers(found.key_per_io));
 }

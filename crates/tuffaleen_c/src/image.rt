@@ -1,86 +1,81 @@
-// The image: tag counts, boot locks, key cache. The cache is lent where it lies.
-ghost use Rattle.std.specs.Prelude.{◌≡◌, false, cond, ◌++◌, length, drop};
+// The image: tag counts, boot locks, key cache. The cache is lent where it lies, behind the registers.
+ghost use Rattle.std.specs.Prelude.{◌≡◌, true, false, ◌++◌, length, drop, MatchOption};
+ghost use Rattle.rules.specs.Start.{fresh_registers};
 ghost use Rattle.tuffaleen_c.specs.Image.{registers_size, image_size, lock_of, no_lock, no_image, registers_in, registers_bytes};
+ghost use Rattle.tuffaleen_c.specs.Lending.{Lent};
 
 use rules::{BootLocks, CACHE_SIZE, Lock, NAMESPACES, Registers};
 
 const PARTITIONS: usize = 2;
 
-const REGISTERS_SIZE: usize = NAMESPACES + PARTITIONS;
+pub(crate) const REGISTERS_SIZE: usize = NAMESPACES + PARTITIONS;
 
 pub(crate) const IMAGE_SIZE: usize = REGISTERS_SIZE + CACHE_SIZE;
 
-fn lock_of(b: u8) -> Lock
-    ensures { result ≡ lock_of b }
+// What the drive is asked with where there is no image: it has no cache then, and refuses.
+#[tactic(auto, unfolding(rules::specs::Start::fresh_registers, cells::specs::Cells::zeros))]
+fn no_registers() -> Registers
+    ensures { result ≡ fresh_registers }
 {
-    match b {
-        1 => Lock::WriteUnlocked,
-        3..=255 => Lock::WriteLockedUntilPowerCycle,
-        _ => Lock::WriteLocked,
+    Registers {
+        counts: [0; NAMESPACES],
+        locks: locks::both_locked(),
     }
 }
 
-fn no_lock(b: u8) -> bool
-    ensures { result ≡ no_lock b }
+#[tactic(auto, using(crate::proofs::ImageLaws::lock_told))]
+fn lock_in(byte: u8) -> Option<Lock>
+    ensures { MatchOption result (no_lock byte ≡ true) (λ lock. (no_lock byte ≡ false) × (lock ≡ lock_of byte)) }
 {
-    b == 0 || b > 3
+    Lock::try_from(byte).ok()
 }
 
-pub(crate) fn no_image(image: &[u8]) -> bool
-    ensures { result ≡ no_image image.now }
+// None in what is no image: another length, or a byte that is no lock's.
+fn registers_in(image: &[u8]) -> Option<Registers>
+    ensures { MatchOption result
+        (no_image image.now ≡ true)
+        (λ registers. (no_image image.now ≡ false) × (registers ≡ registers_in false image.now)) }
 {
     if image.len() != IMAGE_SIZE {
-        return true;
+        return None;
     }
-    no_lock(image[NAMESPACES]) || no_lock(image[NAMESPACES + 1])
+    let counts = image.first_chunk()?;
+    let partition0 = lock_in(image[NAMESPACES])?;
+    let partition1 = lock_in(image[NAMESPACES + 1])?;
+    Some(Registers {
+        counts: *counts,
+        locks: BootLocks {
+            partition0,
+            partition1,
+        },
+    })
 }
 
-// The registers in an image; in what is none, some that nobody asks for.
-pub(crate) fn registers_in(image: &[u8], none: bool) -> Registers
-    requires { none ≡ no_image image.now }
-    ensures { result ≡ registers_in none image.now }
+// The registers go to the front of an image.
+pub(crate) fn save(image: &mut [u8], registers: Registers)
+    requires { length image.old ≡ image_size }
+    ensures { image.new ≡ registers_bytes registers ++ drop registers_size image.old }
 {
-    if none {
-        let locks = locks::both_locked();
-        return Registers {
-            counts: [0u8; NAMESPACES],
-            locks,
-        };
-    }
-    let mut counts = [0u8; NAMESPACES];
-    cells::copy(&mut counts, &image[..NAMESPACES]);
-    let partition0 = lock_of(image[NAMESPACES]);
-    let partition1 = lock_of(image[NAMESPACES + 1]);
-    let locks = BootLocks {
-        partition0,
-        partition1,
-    };
-    Registers { counts, locks }
+    image[..NAMESPACES].copy_from_slice(&registers.counts);
+    image[NAMESPACES] = u8::from(registers.locks.partition0);
+    image[NAMESPACES + 1] = u8::from(registers.locks.partition1);
 }
 
-// Where the cache starts. In what is no image it starts at the end: a cache of no bytes is lent, and the drive refuses it in its place.
-pub(crate) fn keys_at(image: &[u8], none: bool) -> usize
-    ensures { result ≡ cond none (length image.now) registers_size }
+// Makes a call with an image's registers, and with its cache lent where it lies, and saves the registers that it hands back. What is no image
+// stays: the call has no cache then, which the drive refuses in its place.
+pub(crate) fn lend<R, F: FnMut(Registers, &mut [u8]) -> (Registers, R)>(
+    image: &mut [u8],
+    call: &mut F,
+) -> R
+    requires { F.IsAlwaysCallable call.old }
+    ensures { Lent F.step call.old image.old result image.new call.new }
 {
-    if none {
-        return image.len();
+    match registers_in(image) {
+        Some(registers) => {
+            let (registers, reply) = call(registers, &mut image[REGISTERS_SIZE..]);
+            save(image, registers);
+            reply
+        }
+        None => call(no_registers(), &mut []).1,
     }
-    REGISTERS_SIZE
-}
-
-// The registers go to the front of an image; what is none stays.
-pub(crate) fn save(image: &mut [u8], none: bool, registers: Registers)
-    requires { none ≡ false → length image.old ≡ image_size }
-    ensures { image.new ≡ cond none image.old (registers_bytes registers ++ drop registers_size image.old) }
-{
-    if none {
-        return;
-    }
-    let counts = registers.counts;
-    let locks = registers.locks;
-    let zero = locks.partition0;
-    let one = locks.partition1;
-    cells::copy(&mut image[..NAMESPACES], &counts);
-    image[NAMESPACES] = locks::lock_value(zero);
-    image[NAMESPACES + 1] = locks::lock_value(one);
 }

@@ -22,13 +22,12 @@ pub fn tuffaleen_start(image: &mut [u8], marks: &mut [u8], kek: &[u8; KEK_SIZE])
     ensures { record { number = result; image = image.new; marks = marks.new }
         ≡ c_start kek.now image.old marks.old }
 {
-    let none = image.len() != image::IMAGE_SIZE;
-    let at = image::keys_at(image, none);
-    let started = drive::start(kek, &mut image[at..], marks);
-    let answer = started.answer;
-    let registers = started.registers;
-    image::save(image, none, registers);
-    digits::number(answer)
+    if image.len() != image::IMAGE_SIZE {
+        return digits::number(drive::start(kek, &mut [], marks).answer);
+    }
+    let started = drive::start(kek, &mut image[image::REGISTERS_SIZE..], marks);
+    image::save(image, started.registers);
+    digits::number(started.answer)
 }
 
 // One line.
@@ -42,15 +41,15 @@ pub fn tuffaleen_line(
     ensures { record { number = result; image = image.new; marks = marks.new; bytes = written.new; out = out.new }
         ≡ c_call image.old marks.old line.now out.old }
 {
-    let none = image::no_image(image);
-    let at = image::keys_at(image, none);
-    let registers = image::registers_in(image, none);
-    let reply = drive::answer_line(registers, &mut image[at..], marks, line, out);
-    let answer = reply.answer;
-    let registers = reply.registers;
-    image::save(image, none, registers);
+    let reply = image::lend(
+        image,
+        &mut |registers, keys| {
+            let reply = drive::answer_line(registers, keys, marks, line, out);
+            (reply.registers, reply)
+        },
+    );
     *written = reply.bytes;
-    digits::number(answer)
+    digits::number(reply.answer)
 }
 
 // A whole session.
@@ -72,16 +71,16 @@ pub fn tuffaleen_session(
     }
         ≡ c_session image.old marks.old text.now out.old }
 {
-    let none = image::no_image(image);
-    let at = image::keys_at(image, none);
-    let registers = image::registers_in(image, none);
-    let reply = drive::answer_session(registers, &mut image[at..], marks, text, out);
-    let result = reply.result;
-    let registers = reply.registers;
-    image::save(image, none, registers);
+    let reply = image::lend(
+        image,
+        &mut |registers, keys| {
+            let reply = drive::answer_session(registers, keys, marks, text, out);
+            (reply.registers, reply)
+        },
+    );
     *lines = reply.lines;
     *written = reply.bytes;
-    digits::number(result)
+    digits::number(reply.result)
 }
 
 // For a host: what stands in a discovery response.
@@ -101,6 +100,7 @@ pub fn tuffaleen_discovery(bytes: &[u8], fields: &mut [u32]) -> u16
 }
 
 // For the key office: the message that brings a key to a slot.
+#[tactic(auto, unfolding(crate::specs::Office::c_message))]
 pub fn tuffaleen_message(
     namespace: u8,
     tag: u16,

@@ -1,24 +1,18 @@
--- `tuffaleen_line` meets its contract: the registers out of the image, `drive::answer_line` on the cache
--- where it lies, and the registers back to the front.
+-- `tuffaleen_line` meets its contract: `drive::answer_line` on what is lent of the image.
 -- Assumes nothing.
-use Rattle.tuffaleen_c.proofs.ImageLaws.{call_lends, lent_within, back_size, c_called}
+use Rattle.std.proofs.Common.{◌≡◌, rules}
+use Rattle.rules.specs.Call.{Called, call}
+use Rattle.tuffaleen_c.specs.Image.{no_image, registers_in}
+use Rattle.tuffaleen_c.proofs.ImageLaws.{asked, line_told}
 use Rattle.tuffaleen_c.proofs.tuffaleen_line.Goals as goal
-
-pub slice_bounds-answer_line-count : goal.slice_bounds-answer_line-count
-slice_bounds-answer_line-count c =
-    lent_within (call_lends c.args.image.now c.no_image-none.ensures c.keys_at-at.ensures)
-
-pub slice_bounds-answer_line-start : goal.slice_bounds-answer_line-start
-slice_bounds-answer_line-start c =
-    lent_within (call_lends c.args.image.now c.no_image-none.ensures c.keys_at-at.ensures)
-
-pub save-requires : goal.save-requires
-save-requires c =
-    let lends = call_lends c.args.image.now c.no_image-none.ensures c.keys_at-at.ensures in
-    back_size lends c.answer_line-reply.new.keys c.answer_line-reply.auto.keys
 
 pub returns : goal.returns
 returns c =
     let a = c.args in
-    c_called a.image.now a.marks.now c.no_image-none.ensures c.keys_at-at.ensures c.registers_in-registers.ensures a.line.now a.out.now
-    c.answer_line-reply.ensures (c.answer_line-reply.auto.keys, c.save.ensures) c.number.ensures
+    let image = a.image.now in
+    let r = c.lend-reply.result in
+    let l = c.lend-reply.ensures in
+    let ended = c.lend-reply.new.call in
+    let left : Called = record { answer = r.answer; state = asked l.registers l.keys.now ended.0.now; bytes = r.bytes; out = ended.2.now } in
+    let done : left ≡ call (asked (registers_in (no_image image) image) l.shown.now a.marks.now) a.line.now a.out.now = search rules in
+    line_told image a.marks.now l.shows a.line.now a.out.now left done l.saves (search rules) (search rules) c.number.ensures

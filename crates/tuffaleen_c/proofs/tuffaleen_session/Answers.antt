@@ -1,24 +1,18 @@
--- `tuffaleen_session` meets its contract: the registers out of the image, `drive::answer_session` on the cache
--- where it lies, and the registers back to the front.
+-- `tuffaleen_session` meets its contract: `drive::answer_session` on what is lent of the image.
 -- Assumes nothing.
-use Rattle.tuffaleen_c.proofs.ImageLaws.{call_lends, lent_within, back_size, c_session_lem}
+use Rattle.std.proofs.Common.{◌≡◌, rules}
+use Rattle.rules.specs.Sessions.{Session, session}
+use Rattle.tuffaleen_c.specs.Image.{no_image, registers_in}
+use Rattle.tuffaleen_c.proofs.ImageLaws.{asked, text_told}
 use Rattle.tuffaleen_c.proofs.tuffaleen_session.Goals as goal
-
-pub slice_bounds-answer_session-count : goal.slice_bounds-answer_session-count
-slice_bounds-answer_session-count c =
-    lent_within (call_lends c.args.image.now c.no_image-none.ensures c.keys_at-at.ensures)
-
-pub slice_bounds-answer_session-start : goal.slice_bounds-answer_session-start
-slice_bounds-answer_session-start c =
-    lent_within (call_lends c.args.image.now c.no_image-none.ensures c.keys_at-at.ensures)
-
-pub save-requires : goal.save-requires
-save-requires c =
-    let lends = call_lends c.args.image.now c.no_image-none.ensures c.keys_at-at.ensures in
-    back_size lends c.answer_session-reply.new.keys c.answer_session-reply.auto.keys
 
 pub returns : goal.returns
 returns c =
     let a = c.args in
-    c_session_lem a.image.now a.marks.now c.no_image-none.ensures c.keys_at-at.ensures c.registers_in-registers.ensures a.text.now a.out.now
-    c.answer_session-reply.ensures (c.answer_session-reply.auto.keys, c.save.ensures) c.number.ensures
+    let image = a.image.now in
+    let r = c.lend-reply.result in
+    let l = c.lend-reply.ensures in
+    let ended = c.lend-reply.new.call in
+    let left : Session = record { result = r.result; lines = r.lines; state = asked l.registers l.keys.now ended.0.now; bytes = r.bytes; out = ended.2.now } in
+    let done : left ≡ session (asked (registers_in (no_image image) image) l.shown.now a.marks.now) a.text.now a.out.now = search rules in
+    text_told image a.marks.now l.shows a.text.now a.out.now left done l.saves (search rules) (search rules) c.number.ensures

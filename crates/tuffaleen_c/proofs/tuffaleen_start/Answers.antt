@@ -1,22 +1,18 @@
 -- `tuffaleen_start` meets its contract: `drive::start` on the cache where it lies, and the registers to the front.
 -- Assumes nothing.
-use Rattle.tuffaleen_c.proofs.ImageLaws.{start_lends, lent_within, back_size, c_started}
+use Rattle.tuffaleen_c.proofs.ImageLaws.{started_nowhere, started_in, back_size}
 use Rattle.tuffaleen_c.proofs.tuffaleen_start.Goals as goal
 
-pub slice_bounds-start-count : goal.slice_bounds-start-count
-slice_bounds-start-count c =
-    lent_within (start_lends c.args.image.now c.keys_at-at.ensures)
-
-pub slice_bounds-start-start : goal.slice_bounds-start-start
-slice_bounds-start-start c =
-    lent_within (start_lends c.args.image.now c.keys_at-at.ensures)
+pub returns-then-image-ne-IMAGE_SIZE : goal.returns-then-image-ne-IMAGE_SIZE
+returns-then-image-ne-IMAGE_SIZE c =
+    let a = c.args in
+    started_nowhere a.image.now a.marks.now a.kek.now c.number.ensures c.if-image-ne-IMAGE_SIZE.true c.start.ensures
 
 pub save-requires : goal.save-requires
 save-requires c =
-    back_size (start_lends c.args.image.now c.keys_at-at.ensures) c.start-started.new.keys c.start-started.auto.keys
+    back_size c.args.image.now c.if-image-ne-IMAGE_SIZE.false _ c.start-started.auto.keys
 
 pub returns : goal.returns
 returns c =
     let a = c.args in
-    c_started a.image.now a.marks.now a.kek.now c.keys_at-at.ensures c.start-started.ensures (c.start-started.auto.keys, c.save.ensures)
-    c.number.ensures
+    started_in a.image.now a.marks.now a.kek.now c.number-2.ensures c.if-image-ne-IMAGE_SIZE.false c.start-started.ensures c.save.ensures
