@@ -70,7 +70,8 @@ module _ (d : Registers) (keys marks : List ℕ) (ns : Namespace) where
       ∷ []
 
   -- its refusal stands
-  pub unmanaged_refused : {A : Type 0} (f : Refusal → A) (o : A) (r : Refusal) → Err r ≡ counted (state d [] []) ns → judged namespace_checks f o ≡ f r
+  pub unmanaged_refused : {A : Type 0} (f : Refusal → A) (o : A) (r : Refusal) → Err r ≡ counted (state d [] []) ns
+      → judged namespace_checks f o ≡ f r
   unfolding counted
   unmanaged_refused f o r e = ap (λ v. settle v f o) (verdict_of (first_refusal namespace_checks) (count (state d [] []) ns) r e)
 

@@ -277,7 +277,8 @@ module _ (registers : Registers) (keys marks : List ℕ) (c : Command) where
   known_is Write e = rw e
   known_is Read e = rw (read_not_write c e, e)
 
-  pub known_leads : (access : Access) → Known c access → {r : Result (Option ℕ) Refusal} → r ≡ reached (state registers keys []) c → leads s c r ≡ outcome
+  pub known_leads : (access : Access) → Known c access → {r : Result (Option ℕ) Refusal} → r ≡ reached (state registers keys []) c
+      → leads s c r ≡ outcome
   known_leads access e q = sym (opened_leads s c (known_is access e) ∙ ap (leads s c) (sym (q ∙ reached_marks registers keys marks c)))
 
   module _ {place : ℕ} (to : Ok (Some place) ≡ reached (state registers keys []) c) where

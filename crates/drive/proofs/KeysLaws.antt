@@ -123,7 +123,8 @@ started kek keys marks locks cache a store l k z =
 
     by : (s c : Bool) → wrong_cache keys ≡ c
         → left (judged (checks s c) (λ r. record { answer = Err r; marks = marks }) (record { answer = Ok Done; marks = zeros store_size }))
-        ≡ judged (checks s c) (λ r. record { answer = Err r; state = fresh_with (emptied_cache kek keys) marks }) (record { answer = Ok Done; state = fresh kek })
+        ≡ judged (checks s c) (λ r. record { answer = Err r; state = fresh_with (emptied_cache kek keys) marks })
+        (record { answer = Ok Done; state = fresh kek })
     by true c e = refl
     by false true e = refl
     by false false e = ap (λ b. after (Ok Done) fresh_registers (cond b keys (fresh_cache kek)) (zeros store_size)) e

@@ -1,7 +1,8 @@
 -- The lines of a text, cut where the code cuts them; and the room that their
 -- answers may need.
 -- Assumes nothing.
-use Rattle.std.proofs.Common.{◌≡◌, ℕ, suc, ◌+◌, ◌<◌, ◌≤◌, Bool, true, false, cond, eqb, List, [], ◌∷◌, ◌++◌, length, get_or, take, drop, sym, refl}
+use Rattle.std.proofs.Common.{◌≡◌, ℕ, suc, ◌+◌, ◌<◌, ◌≤◌, Bool, true, false, cond, eqb, List, [], ◌∷◌, ◌++◌}
+use Rattle.std.proofs.Common.{length, get_or, take, drop, sym, refl}
 use Rattle.std.proofs.Common.{ap, ◌∙◌, add-one, arith, take-append-drop, drop_of_length-le, take_all, drop-cons, ne_eqb, eq-eqb, eqb-true, length-take-le}
 use lib.Seq.{get_or-take}
 use Rattle.rules.specs.Answers.{line_feed}
@@ -46,7 +47,8 @@ module _ (text : List ℕ) (i : ℕ) (clean : NoFeed text i) where
   fed h e =
       let cut : text ≡ take i text ++ (line_feed ∷ drop (i + 1) text) =
       sym (take-append-drop i text)
-      ∙ ap (λ z. take i text ++ z) (drop-cons text i 0 h ∙ ap (λ b. b ∷ drop (suc i) text) e ∙ ap (λ k. line_feed ∷ drop k text) (sym (add-one i))) in
+      ∙ ap (λ z. take i text ++ z) (drop-cons text i 0 h ∙ ap (λ b. b ∷ drop (suc i) text) e
+      ∙ ap (λ k. line_feed ∷ drop k text) (sym (add-one i))) in
       ap lines_of cut ∙ line_then (take i text) (drop (i + 1) text) (clean_front (omega arith))
 
   -- the text ends at i
@@ -90,7 +92,8 @@ few_lines (b ∷ text) = one_more b text (eqb b line_feed) (few_lines text)
 -- ------------------------------------------------------------------------
 -- Room: of the first line and of those behind it
 
-pub room_line : {all : List (List ℕ)} {line : List ℕ} {left : List (List ℕ)} → all ≡ line ∷ left → room_for_all all ≡ room_for line + room_for_all left
+pub room_line : {all : List (List ℕ)} {line : List ℕ} {left : List (List ℕ)} → all ≡ line ∷ left
+    → room_for_all all ≡ room_for line + room_for_all left
 unfolding room_for_all
 room_line e = ap room_for_all e
 

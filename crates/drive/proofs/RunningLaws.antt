@@ -1,6 +1,7 @@
 -- What holds after each line of a session.
 -- Assumes nothing.
-use Rattle.std.proofs.Common.{◌≡◌, ℕ, ◌+◌, ◌-◌, ◌<◌, ◌≤◌, Ok, List, [], ◌∷◌, ◌++◌, length, take, drop, sym, refl, ap, ◌∙◌}
+use Rattle.std.proofs.Common.{◌≡◌, ℕ, ◌+◌, ◌-◌, ◌<◌, ◌≤◌, Ok, List, [], ◌∷◌, ◌++◌, length, take, drop}
+use Rattle.std.proofs.Common.{sym, refl, ap, ◌∙◌}
 use Rattle.std.proofs.Common.{append_assoc, append-nil, arith, length-drop, take-append-drop, length-take-le, drop-drop, le-leb}
 use Rattle.cells.specs.Cells.{write}
 use Rattle.cells.proofs.CellsLaws.{lent_rest, back_rest, length_write, drop_write, write_end}
@@ -83,7 +84,8 @@ module _ (s₀ : State) (text out₀ : List ℕ) where
   }
 
   -- at a line, with others behind it
-  module _ (s : State) (line : List ℕ) (left : List (List ℕ)) (lines bytes : ℕ) (out : List ℕ) (m : Mid s₀ text out₀ s (line ∷ left) lines bytes out) where
+  module _ (s : State) (line : List ℕ) (left : List (List ℕ)) (lines bytes : ℕ) (out : List ℕ)
+      (m : Mid s₀ text out₀ s (line ∷ left) lines bytes out) where
     -- room for one answer more
     pub room_more : bytes + room_for line ≤ length out
     unfolding room_for_all

@@ -1,6 +1,7 @@
 -- What the drive's own functions leave, in terms of the rules.
 -- Assumes nothing.
-use Rattle.std.specs.Prelude.{◌≡◌, ℕ, ◌+◌, Bool, true, false, cond, not, ◌||◌, List, [], ◌∷◌, ◌==◌, nat_le, Option, Some, None, Result, Ok, Err, ⊤}
+use Rattle.std.specs.Prelude.{◌≡◌, ℕ, ◌+◌, Bool, true, false, cond, not, ◌||◌, List, [], ◌∷◌, ◌==◌, nat_le}
+use Rattle.std.specs.Prelude.{Option, Some, None, Result, Ok, Err, ⊤}
 use Rattle.cells.specs.Cells.{part, cell, put, zeros}
 use Rattle.cells.specs.Predicates.{same}
 use Rattle.rules.specs.declared.Namespace.{Namespace}

@@ -106,7 +106,8 @@ module _ (size : ℕ) (f : List ℕ) where
     as_kind (Ok t) = Ok (kind t.ns t.tag t.l)
     as_kind (Err r) = Err r
 
-    pub read_by : (frame : Frame) → (AllPass (load_checks size f) → Ok (kind (namespace (byte 1 f)) (key_tag (bytes 2 3 f)) (byte 4 f)) ≡ numbers_of frame)
+    pub read_by : (frame : Frame) → (AllPass (load_checks size f) → Ok (kind (namespace (byte 1 f)) (key_tag (bytes 2 3 f)) (byte 4 f))
+        ≡ numbers_of frame)
         → {s : Result ToSlot Refusal} → s ≡ named_by → as_kind s ≡ numbered (record { checks = load_checks size f; frame = frame })
     unfolding numbered
     read_by frame h e = ap as_kind e ∙ by (first_refusal (load_checks size f)) refl

@@ -198,7 +198,8 @@ Tight-kmip-write =
     Tight {Left = Result ℕ NotSent × List ℕ} kmip-write.Asked kmip-write.Learnt (λ κs result exit. (result, exit.1.1.1.1.0.now))
 
 abbrev pub Tight-digits-read-line : Type 0
-Tight-digits-read-line = Tight {Left = Result ℕ BadLine × List ℕ} digits-read-line.Asked digits-read-line.Learnt (λ κs result exit. (result, exit.1.0.now))
+Tight-digits-read-line =
+    Tight {Left = Result ℕ BadLine × List ℕ} digits-read-line.Asked digits-read-line.Learnt (λ κs result exit. (result, exit.1.0.now))
 
 abbrev pub Tight-digits-number : Type 0
 Tight-digits-number = Tight {Left = ℕ} digits_number.Asked digits_number.Learnt (λ κs result exit. result)

@@ -31,5 +31,6 @@ returns-in-Ok c =
     let a = c.args in
     let now : State = state a.registers a.keys.now a.marks.now in
     c.on_ready.ensures
-    ∙ let_in a.registers a.keys.now a.marks.now (room_for a.line.now) a.out.now _ (ap (ltb (length a.out.now)) c.room_for.ensures) (sym c.in-Ok.is ∙ c.admit.ensures)
+    ∙ let_in a.registers a.keys.now a.marks.now (room_for a.line.now) a.out.now _ (ap (ltb (length a.out.now)) c.room_for.ensures)
+    (sym c.in-Ok.is ∙ c.admit.ensures)
     (unanswered now a.out.now) (answered now a.line.now a.out.now)

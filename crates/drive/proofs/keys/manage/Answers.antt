@@ -1,6 +1,7 @@
 -- `manage` meets its contract: each return is one of the checks.
 -- Assumes nothing.
-use Rattle.std.proofs.Common.{◌≡◌, ◌+◌, true, false, length, sym, ◌∙◌, ◌||◌, ltb, eqb, arith, rules, eq-eqb, ne_eqb, lt-ltb, le-ltb, ⊎_elim}
+use Rattle.std.proofs.Common.{◌≡◌, ◌+◌, true, false, length, sym, ◌∙◌, ◌||◌, ltb, eqb, arith, rules, eq-eqb, ne_eqb}
+use Rattle.std.proofs.Common.{lt-ltb, le-ltb, ⊎_elim}
 use Rattle.cells.proofs.PredicatesLaws.{neither}
 use Rattle.rules.specs.State.{no_namespace, total}
 use Rattle.rules.specs.Numbers.{namespaces, tags_most, pool_slots}
@@ -50,7 +51,8 @@ returns-then-total-n-gt-POOL_SLOTS c =
     let counted : length c.args.registers.now.counts ≡ namespaces = search rules in
     λ keys marks.
     let above : ltb pool_slots (total c.args.registers.now.counts + c.args.tags) ≡ true =
-    lt-ltb pool_slots (total c.args.registers.now.counts + c.args.tags) (omega (arith, c.total.ensures.0, c.from-n.ensures, c.if-total-n-gt-POOL_SLOTS.true)) in
+    lt-ltb pool_slots (total c.args.registers.now.counts + c.args.tags)
+    (omega (arith, c.total.ensures.0, c.from-n.ensures, c.if-total-n-gt-POOL_SLOTS.true)) in
     rw (named, free, good, all_tags_lem (state c.args.registers.now keys marks) counted, above)
 
 pub set_count-requires : goal.set_count-requires
@@ -68,5 +70,6 @@ returns c =
     let counted : length c.args.registers.now.counts ≡ namespaces = search rules in
     λ keys marks.
     let room : ltb pool_slots (total c.args.registers.now.counts + c.args.tags) ≡ false =
-    le-ltb pool_slots (total c.args.registers.now.counts + c.args.tags) (omega (arith, c.total.ensures.0, c.from-n.ensures, c.if-total-n-gt-POOL_SLOTS.false)) in
+    le-ltb pool_slots (total c.args.registers.now.counts + c.args.tags)
+    (omega (arith, c.total.ensures.0, c.from-n.ensures, c.if-total-n-gt-POOL_SLOTS.false)) in
     rw (c.set_count.ensures, named, free, good, all_tags_lem (state c.args.registers.now keys marks) counted, room)

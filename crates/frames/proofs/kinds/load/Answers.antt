@@ -16,7 +16,8 @@ abbrev frame_of : List ℕ → Frame
 frame_of f = load (namespace (byte 1 f)) (key_tag (bytes 2 3 f)) (contents_at key_size 5 (byte 4 f) f)
 
 -- its numbers, where the checks pass
-numbers : (f : List ℕ) → AllPass (load_checks key_size f) → Ok (Load (namespace (byte 1 f)) (key_tag (bytes 2 3 f)) (byte 4 f)) ≡ numbers_of (frame_of f)
+numbers : (f : List ℕ) → AllPass (load_checks key_size f)
+    → Ok (Load (namespace (byte 1 f)) (key_tag (bytes 2 3 f)) (byte 4 f)) ≡ numbers_of (frame_of f)
 numbers f p = ap (λ l. Ok (Load (namespace (byte 1 f)) (key_tag (bytes 2 3 f)) l)) (sym (counted key_size f p))
 
 pub returns-in_err-ns : goal.returns-in_err-ns

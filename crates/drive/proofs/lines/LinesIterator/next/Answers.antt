@@ -31,7 +31,8 @@ returns-in-Some-clause-goes c =
 pub returns-in-None-clause-steps : goal.returns-in-None-clause-steps
 returns-in-None-clause-steps c =
     let text = c.args.self.now.0.now in
-    last_found text (some_bytes c.is_empty.ensures c.if-is_empty.false) c.in-None.ensures ∙ ap (λ rest. text ∷ lines_of rest) (sym (lent_rest (length text) text))
+    last_found text (some_bytes c.is_empty.ensures c.if-is_empty.false) c.in-None.ensures
+    ∙ ap (λ rest. text ∷ lines_of rest) (sym (lent_rest (length text) text))
 
 pub returns-in-None-clause-goes : goal.returns-in-None-clause-goes
 returns-in-None-clause-goes c =
