@@ -86,7 +86,7 @@ fn all_lines(rt: &impl Print, keys: &mut Cache, marks: &mut Marks, input: &[u8])
 }
 
 // Reads until the text is full, the input ends or a read fails, and returns how many bytes it put there. (a) No heap: std's `read_to_end`
-// and `take` fill a Vec.
+// and `take` fill a Vec. (d) As `tuffaleen`'s, which tells what fails: a crate of its own for the two would be longer than they are.
 fn read_text(rt: &HostRuntime, text: &mut [u8]) -> usize
     ensures { result ≤ length text.new }
 {

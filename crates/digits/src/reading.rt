@@ -7,7 +7,7 @@ ghost use Rattle.digits.specs.Digits.{framed};
 // What stands for the value of a byte that is no digit.
 const NO_DIGIT: u8 = 16;
 
-// A digit's value, or `NO_DIGIT`: `decode` takes ten times as long over an `Option`, a quarter longer over a match on ranges.
+// A digit's value, or `NO_DIGIT`: (b) `decode` takes ten times as long over an `Option`, a quarter longer over a match on ranges.
 fn value(d: u8) -> u8
     ensures { Valued d result }
 {
@@ -24,7 +24,7 @@ fn value(d: u8) -> u8
 
 // The pairs of a line's digits go to the front of the frame, a byte each, with 0 for a bad digit. The place of the first bad one, if there
 // is one: the loop does not stop at it, and keeps the largest value that it met, so that the compiler takes many pairs at a time. Over
-// `chunks_exact` it takes them with one load, over an index into the line byte by byte. Not proved over `frame.iter_mut()`: std doesn't say
+// `chunks_exact` it takes them with one load, over an index into the line byte by byte. (c) Not over `frame.iter_mut()`: std doesn't say
 // what the slice ends as.
 pub(crate) fn decode(line: &[u8], frame: &mut [u8]) -> Option<usize>
     requires { length line.now / 2 ≤ length frame.old }

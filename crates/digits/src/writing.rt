@@ -32,7 +32,7 @@ fn digit(n: u8) -> u8
     b'A' + (n - 10)
 }
 
-// Two digits for each byte, at the front of the output. Not proved over `out.chunks_exact_mut(2)`: std doesn't say what the slice ends as.
+// Two digits for each byte, at the front of the output. (c) Not over `out.chunks_exact_mut(2)`: std doesn't say what the slice ends as.
 #[tactic(auto, using(crate::proofs::WritingLaws::digits_turn), unfolding(rules::specs::Answers::digits_of))]
 fn put_digits(bytes: &[u8], out: &mut [u8])
     requires { length bytes.now * 2 ≤ length out.old }
@@ -45,7 +45,7 @@ fn put_digits(bytes: &[u8], out: &mut [u8])
     }
 }
 
-// Writes the line of an answer that has these bytes, and says how long it is; 0 where there is no room, as `write_answer` has to (`wrote`).
+// Writes the line of an answer that has these bytes, and says how long it is. (a) 0 where there is no room, as the definition `wrote` has it.
 pub(crate) fn write_line(bytes: &[u8], out: &mut [u8]) -> usize
     ensures { (a : Answer) → answer_bytes a ≡ bytes.entry.now
         → record { bytes = result; out = out.new } ≡ wrote a out.old }

@@ -210,7 +210,7 @@ fn by_kind(f: &[u8]) -> Result<FrameRead, Refusal>
     }
 }
 
-// The frame in the first n bytes.
+// The frame in the first n bytes. (d) The array goes with n, and no slice of it: what a message brings is longer than some messages.
 pub(crate) fn front(
     frame: &mut [u8; FRAME_MOST],
     n: usize,

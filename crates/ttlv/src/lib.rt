@@ -111,6 +111,7 @@ pub fn sound(bytes: &[u8]) -> bool
 }
 
 // The items of the bytes as a list, laid at the front of the places; how many they are. What is refused leaves the places as they were.
+// (a) A list is lent as numbers, five an item, here and in `write`: so docs/KMIP.md and the theorems `listed_so` and `written_back` have it.
 pub fn read(bytes: &[u8], places: &mut [u32]) -> Result<usize, ReadError>
     ensures { record { result = result; places = places.new } ≡ read_list bytes.now places.old }
 {

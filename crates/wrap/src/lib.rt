@@ -25,7 +25,8 @@ pub fn wrap(kek: &[u8], bytes: &mut [u8], w: &mut [u32; SCHEDULE])
     aes::wipe(w);
 }
 
-// Whether the 40 bytes are a wrapped key. If they are, the key comes to stand in the last 32; if not, all become zero.
+// Whether the 40 bytes are a wrapped key. If they are, the key comes to stand in the last 32; if not, all become zero. (d) A `bool`, as
+// the definition `opened_in` has it: a `Result` of nothing and nothing would say no more.
 pub fn unwrap(kek: &[u8], bytes: &mut [u8], w: &mut [u32; SCHEDULE]) -> bool
     ensures { (record { opened = result; bytes = bytes.new } ≡ opened_in kek.now bytes.old) ×
         (w.new ≡ zeros schedule_words) }
