@@ -118,13 +118,13 @@ module _ (w : List ℕ) (hw : Bytes 240 w) where
 -- Under a key of 32 bytes
 
 module _ (k : List ℕ) (hk : Bytes 32 k) (s : Block) (hs : Fit s) where
-  cipher_is : cipher_by mix_table sbox (expanded_by sbox (words_of k 8) 52) s ≡ block_of (cipher k (bytes_of s))
+  pub cipher_is : cipher_by mix_table sbox (expanded_by sbox (words_of k 8) 52) s ≡ block_of (cipher k (bytes_of s))
   unfolding cipher
   cipher_is =
       ap₂ (cipher_by mix_table sbox) (schedule_is k hk) (sym (block_whole s hs))
       ∙ cipher_by_is (key_expansion k) (expansion_bytes k hk) (bytes_of s) (block_bytes s)
 
-  inv_cipher_is : inv_cipher_by inv_mix_table inv_sbox (unmixed_by inv_mix_table sbox (expanded_by sbox (words_of k 8) 52)) s
+  pub inv_cipher_is : inv_cipher_by inv_mix_table inv_sbox (unmixed_by inv_mix_table sbox (expanded_by sbox (words_of k 8) 52)) s
       ≡ block_of (inv_cipher k (bytes_of s))
   unfolding inv_cipher
   inv_cipher_is =
