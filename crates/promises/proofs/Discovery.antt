@@ -13,7 +13,7 @@ discovery_demands = record {
   fields_or_none = λ d o l. rules.fields_or_none d o (finding_is d o l);
   first_tper_counts = λ d o l. rules.first_tper_counts d o (finding_is d o l);
   first_key_per_io_counts = λ d o l. rules.first_key_per_io_counts d o (finding_is d o l);
-  other_changes_nothing = λ d o l a p b x other small o' l'.
-      rules.other_changes_nothing d o (finding_is d o l) a p b x other small o' (finding_is _ o' l');
+  other_changes_nothing = λ d o l found a p b x other small o' l'.
+      rules.other_changes_nothing d o (finding_is d o l) found a p b x other small o' (finding_is _ o' l');
   reads_back = λ f fit out w l a o l'. rules.reads_back f fit out w (response_is f out w l) a o (finding_is w.out o l');
 }
