@@ -24,8 +24,8 @@ fn value(d: u8) -> u8
 
 // The pairs of a line's digits go to the front of the frame, a byte each, with 0 for a bad digit. The place of the first bad one, if there
 // is one: the loop does not stop at it, and keeps the largest value that it met, so that the compiler takes many pairs at a time. Over
-// `chunks_exact` it takes them with one load, over an index into the line byte by byte. (c) Not over `frame.iter_mut()`: std doesn't say
-// what the slice ends as.
+// `chunks_exact` it takes them with one load, over an index into the line byte by byte. (c) Not over `frame.iter_mut().zip(pairs)`: of
+// it a proof knows only the length of the frame behind the loop.
 pub(crate) fn decode(line: &[u8], frame: &mut [u8]) -> Option<usize>
     requires { length line.now / 2 ≤ length frame.old }
     ensures { (result ≡ bad_digit line.now) × (frame.new ≡ framed line.now frame.old) }

@@ -45,7 +45,7 @@ fn put_digits(bytes: &[u8], out: &mut [u8])
     }
 }
 
-// Writes the line of an answer that has these bytes, and says how long it is. (a) 0 where there is no room, as the definition `wrote` has it.
+// Writes the line of an answer that has these bytes, and says how long it is. (a) 0 where there is no room: `write_answer` is `wrote`, which `promises` has.
 pub(crate) fn write_line(bytes: &[u8], out: &mut [u8]) -> usize
     ensures { (a : Answer) → answer_bytes a ≡ bytes.entry.now
         → record { bytes = result; out = out.new } ≡ wrote a out.old }

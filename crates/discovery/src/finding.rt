@@ -25,7 +25,7 @@ fn split_first(features: &[u8]) -> Result<(&[u8], &[u8]), Refusal>
         return Err(Refusal::NotAResponse);
     };
     features
-        .split_at_checked(HEAD_SIZE + *length as usize)
+        .split_at_checked(HEAD_SIZE + usize::from(*length))
         .ok_or(Refusal::NotAResponse)
 }
 

@@ -8,7 +8,7 @@ use rules::{
     DiscoveryHeader, HEADER_SIZE, KEY_PER_IO_SIZE, KeyPerIo, TPER_SIZE, Tper, VENDOR_SPECIFIC_SIZE,
 };
 
-// Two and four bytes from at, the highest first. (d) Lent as slices, since they are read in arrays of three sizes.
+// Two and four bytes from at, the highest first. (d) Lent as slices: a feature's code is read from one, the fields from arrays.
 #[tactic(auto, using(crate::proofs::ReadingLaws::word_is))]
 pub(crate) fn word(d: &[u8], at: usize) -> u16
     requires { at + 2 ≤ length d.now }

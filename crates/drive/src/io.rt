@@ -64,24 +64,30 @@ fn reach(registers: &Registers, keys: &[u8], c: Command) -> Result<Option<usize>
     }
 }
 
+// The identity of a slot's key: its first MARK_WIDTH bytes.
+fn identity(keys: &[u8], place: usize) -> &[u8]
+    requires { (length keys.now ≡ cache_size) × (place < slot_places) }
+    ensures { result.now ≡ part (place * slot_width) mark_width keys.now }
+{
+    let a = place * SLOT_WIDTH;
+    let e = a + MARK_WIDTH;
+    &keys[a..e]
+}
+
 // 00 28: whether a covered block was written under another identity than that of the slot's key.
 fn wrong_key(keys: &[u8], marks: &[u8], place: usize, block: usize, n: usize) -> bool
     requires { (length keys.now ≡ cache_size) × (place < slot_places) }
     ensures { result ≡ some_differs block n (part (place * slot_width) mark_width keys.now) marks.now }
 {
-    let a = place * SLOT_WIDTH;
-    let e = a + MARK_WIDTH;
-    marks::some_differs(marks, block, n, &keys[a..e])
+    marks::some_differs(marks, block, n, identity(keys, place))
 }
 
-// The covered marks become the identity of the slot's key: its first MARK_WIDTH bytes.
+// The covered marks become the identity of the slot's key.
 fn mark_covered(keys: &[u8], marks: &mut [u8], place: usize, block: usize, n: usize)
     requires { (length keys.now ≡ cache_size) × (place < slot_places) }
     ensures { marks.new ≡ marked block n (part (place * slot_width) mark_width keys.now) marks.old }
 {
-    let a = place * SLOT_WIDTH;
-    let e = a + MARK_WIDTH;
-    marks::mark(marks, block, n, &keys[a..e]);
+    marks::mark(marks, block, n, identity(keys, place));
 }
 
 // The place of a command's first block in the mark store.

@@ -8,7 +8,7 @@ ghost use Rattle.kmip.specs.Runs.{items_of, First, Found, FoundStructure, FoundV
 use crate::run::Run;
 use ttlv::{Front, ITEM_HEAD, item_at};
 
-// Types stay numbers, as `ttlv` tells them: an enum would be made from the number of each item that is passed over, to be compared once.
+// (d) Types stay numbers, as `ttlv` tells them: an enum would be made from the number of each item that is passed over, to be compared once.
 pub(crate) const TEXT: u8 = 0x07;
 
 pub(crate) const BYTE_STRING: u8 = 0x08;

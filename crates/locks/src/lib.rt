@@ -105,7 +105,8 @@ pub fn set_locks(locks: &mut BootLocks, dword11: u32) -> Answer
     Ok(Granted::Done)
 }
 
-// Lends a pair to `set_locks`; who has the pair by value calls this and needs no walk.
+// Lends a pair to `set_locks`; who has the pair by value calls this and needs no walk. (a) As `decide` for its callers, but `promises` has
+// `Tight-locks-set-features` and `Tight-locks-decide`.
 pub fn set_features(locks: BootLocks, dword11: u32) -> Result<BootLocks, Refusal>
     ensures { result ≡ decided locks dword11 }
 {

@@ -9,7 +9,7 @@ use crate::{BadLine, Lock, Refusal};
 
 // A number that is no lock's.
 #[derive(Clone, Copy, Debug, PartialEq, Eq)]
-pub struct NoLock(pub u8);
+pub struct NoLock;
 
 impl From<Refusal> for u16 {
     ghost from_gives = { λ refusal n. n ≡ refusal_number refusal };
@@ -77,7 +77,7 @@ impl TryFrom<u8> for Lock {
             1 => Ok(Lock::WriteUnlocked),
             2 => Ok(Lock::WriteLocked),
             3 => Ok(Lock::WriteLockedUntilPowerCycle),
-            _ => Err(NoLock(n)),
+            _ => Err(NoLock),
         }
     }
 }

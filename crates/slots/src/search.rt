@@ -14,7 +14,7 @@ const HALF_UID: usize = UID_MOST / 2;
 // Where the second half of a padded KeyUID stands in a head.
 const REST_AT: usize = 1 + HALF_UID;
 
-// Whether as many bytes are the same. As many turns whatever they are, and no way out of the fold: the compiler compares half a KeyUID at once.
+// Whether as many bytes are the same. (b) As many turns whatever they are, and no way out of the fold: the compiler compares half a KeyUID at once.
 fn same_run(a: &[u8], b: &[u8]) -> bool
     requires { length a.now ≡ length b.now }
     ensures { result ≡ same a.now b.now }

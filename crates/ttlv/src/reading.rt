@@ -5,7 +5,8 @@ ghost use Rattle.ttlv.specs.Reading.{Headed, placed};
 
 use crate::{Front, ITEM_HEAD};
 
-// (d) Types stay numbers: `Front` and `Item` hold any number, and an enum would be made of it only to be compared once.
+// (d) Types stay numbers: `Front` and `Item` hold any number, and `write` refuses a list with one that is no type. An enum would need a
+// variant for those, with the number in it.
 pub(crate) const STRUCTURE: u32 = 0x01;
 
 const INTEGER: u32 = 0x02;

@@ -13,5 +13,5 @@ pub returns : goal.returns
 returns c =
     let d = c.args.features.now in
     let head = c.in-Some.ensures.cases in
-    let length_at = ap (λ (l : List ℕ). byte 3 l) head.same ∙ get_or-take 4 d 3 0 (omega arith) in
+    let length_at = c.from.ensures ∙ ap (λ (l : List ℕ). byte 3 l) head.same ∙ get_or-take 4 d 3 0 (omega arith) in
     rw c.ok_or.ensures.value (split d head.enough _ length_at _ c.split_at_checked.ensures.cases)
