@@ -129,7 +129,7 @@ impl Tables<'_> {
     }
 }
 
-// The round key of round r.
+// The round key of round r. (d) A pattern and `Block { .. }` say what a `From<[u32; 4]>` would.
 pub(crate) fn key_at(w: &[u32; SCHEDULE], r: usize) -> Block
     requires { r ≤ 14 }
     ensures { result ≡ key_at w.now r }

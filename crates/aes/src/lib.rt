@@ -106,7 +106,7 @@ pub fn wipe(w: &mut [u32; SCHEDULE])
     w.fill(0);
 }
 
-// The cipher over lent tables and round keys.
+// The cipher over lent tables and round keys. (a) They go apart, here and in the inverse: `promises` `Tight-aes-cipher-by` has them so.
 pub fn cipher_by(table: &[u32; 256], sub: &[u8; 256], w: &[u32; SCHEDULE], block: Block) -> Block
     ensures { result ≡ cipher_by table.now sub.now w.now block }
 {

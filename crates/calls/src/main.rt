@@ -39,7 +39,8 @@ pub struct Setting {
     pub room: usize,
 }
 
-// One call of the library: answer_line, or start where the word says so.
+// One call of the library: answer_line, or start where the word says so. (c) Cache and marks go side by side: of a struct that is lent the
+// borrow checker lends no two fields at once.
 fn one_call(
     rt: &impl Print,
     registers: Registers,

@@ -70,7 +70,8 @@ fn differs_by_runs(marks: &[u8], identity: &Mark) -> bool
         || differs_each(rest, identity)
 }
 
-// 00 28: whether one of the n blocks from first has been written under another identity.
+// 00 28: whether one of the n blocks from first has been written under another identity. (a) Two numbers and no range, here and in `mark`:
+// `promises` `Tight-marks-some-differs` and `Tight-marks-mark` have them.
 pub fn some_differs(marks: &[u8], first: usize, n: usize, identity: &[u8]) -> bool
     ensures { result ≡ some_differs first n identity.now marks.now }
 {

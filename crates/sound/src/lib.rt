@@ -9,6 +9,7 @@ ghost use Rattle.sound.specs.Scan.{namespace_unsound, some_namespace_unsound};
 
 use rules::{CACHE_SIZE, NAMESPACES, POOL_SLOTS, Registers, SLOT_WIDTH, TAGS_MOST, UID_MOST};
 
+// (d) As in `slots`; but for this line and the two that take the cache apart the crates share nothing (decision 88).
 type Slot = [u8; SLOT_WIDTH];
 
 // The paper's scan.

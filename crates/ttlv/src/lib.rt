@@ -89,7 +89,8 @@ pub enum WriteError {
     NoList,
 }
 
-// What stands at `at`, among the bytes up to `end`. No item stands in a run that is not there.
+// What stands at `at`, among the bytes up to `end`. No item stands in a run that is not there. (a) Bytes and two places, as `promises`
+// `Tight-ttlv-item-at` has them: it answers for any.
 pub fn item_at(bytes: &[u8], at: usize, end: usize) -> Option<Front>
     ensures { result ≡ item_at bytes.now at end }
 {

@@ -22,6 +22,7 @@ const KEY_TO_WRAP: [u8; WRAPPED_SIZE] = *b"\
     \x00\x11\x22\x33\x44\x55\x66\x77\x88\x99\xAA\xBB\xCC\xDD\xEE\xFF\
     \x00\x01\x02\x03\x04\x05\x06\x07\x08\x09\x0A\x0B\x0C\x0D\x0E\x0F";
 
+// (d) Printer and words go side by side here: `show` takes the one, the ciphers the other.
 fn schedule(rt: &impl Print, words: &mut [u32; SCHEDULE]) {
     aes::expand(&NIST_KEY, words);
     for w in words.iter() {
