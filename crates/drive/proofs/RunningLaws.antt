@@ -73,16 +73,6 @@ unfolding answer_lines answers_to
 saying_nil s = refl
 
 module _ (s₀ : State) (text out₀ : List ℕ) where
-  pub mid_none : room_for_all (lines_of text) ≤ length out₀ → Mid s₀ text out₀ s₀ (lines_of text) 0 0 out₀
-  mid_none h = record {
-    size = refl;
-    counted = omega arith;
-    room = omega arith;
-    ends = refl;
-    told = refl;
-    rest = refl;
-  }
-
   -- at a line, with others behind it
   module _ (s : State) (line : List ℕ) (left : List (List ℕ)) (lines bytes : ℕ) (out : List ℕ)
       (m : Mid s₀ text out₀ s (line ∷ left) lines bytes out) where

@@ -2,7 +2,7 @@
 -- kinds past the table.
 -- Assumes nothing.
 use mathlib.Core.Path.{◌≡◌, refl, ap, ◌∙◌}
-use mathlib.Core.Bool.{Bool, true, false, ◌||◌}
+use mathlib.Core.Bool.{Bool, true, false}
 use mathlib.Core.List.{List, [], ◌∷◌}
 use Prim.Native.Nat.{ℕ, zero, suc, ◌+◌, ◌<◌, ◌≤◌}
 use native.Mathlib.Omega.{arith}
@@ -53,16 +53,9 @@ module _ (n : ℕ) (f : List ℕ) (frame : Frame) where
 -- ------------------------------------------------------------------------
 -- KeyUID lengths
 
-either : (a b : Bool) → b ≡ true → a || b ≡ true
-either true b e = refl
-either false b e = e
-
 module _ (l : ℕ) where
   pub no_uid : l ≡ 0 → bad_uid_length l ≡ true
   no_uid e = rw (eq-eqb l 0 e)
-
-  pub long_uid : ltb uid_most l ≡ true → bad_uid_length l ≡ true
-  long_uid e = either (eqb l 0) (ltb uid_most l) e
 
   pub good_uid : (l ≡ 0 → ⊥) → ltb uid_most l ≡ false → bad_uid_length l ≡ false
   good_uid n e = neither (eqb l 0) (ltb uid_most l) (ne_eqb l 0 n) e

@@ -11,11 +11,10 @@ use lib.Seq.{take-length, take_at, drop_at, drop-drop, length-take-le}
 use borrow.Author.Tests.{eq-eqb, ne_eqb}
 use Rattle.cells.proofs.CellsLaws.{lent_rest, back_rest, lent_length_to}
 use Rattle.rules.specs.Ttlv.{Structure, encode}
-use Rattle.std.proofs.lemmas.List.{length-map}
 use Rattle.ttlv.specs.declared.Item.{Item}
 use Rattle.ttlv.specs.ItemList.{item}
 use Rattle.ttlv.specs.Writing.{deeper, tree_of, room_of, room_for}
-use Rattle.ttlv.specs.Pieces.{items_of, piece_of, pieces, with_length, sized, Inside, AllInside, Layable, LaidOut}
+use Rattle.ttlv.specs.Pieces.{items_of, piece_of, pieces, with_length, sized, Inside, AllInside, LaidOut}
 use Rattle.ttlv.specs.Listing.{items_most, first_item}
 use Rattle.ttlv.proofs.TreeLaws.{room_structure, room_nil, room_cons, sized_nil, sized_cons, inside_cons, pieces_nil, pieces_cons, pieces_tree, length_piece}
 
@@ -53,12 +52,6 @@ pub record Laying (values : List ℕ) (is : List Item) (out₀ out : List ℕ) (
   pub same : length out ≡ length out₀
   pub inside : AllInside values left
   pub few : length left ≤ items_most
-
-pub lay_start : (values out : List ℕ) (arrays : List (List ℕ)) → Layable (items_of arrays) values out → length arrays ≤ items_most
-    → Laying values (items_of arrays) out out 0 (items_of arrays)
-lay_start values out arrays l few =
-    let n = length-map arrays first_item in
-    record { done = refl; kept = refl; sum = omega arith; same = refl; inside = l.inside; few = omega arith }
 
 -- what is left takes no more bytes than a length can say
 pub left_fits : {values : List ℕ} {is : List Item} {out₀ out : List ℕ} {at : ℕ} {left behind : List Item} (w : Item)

@@ -21,7 +21,7 @@ use Rattle.ttlv.specs.declared.Front.{Front}
 use Rattle.ttlv.specs.Reading.{Fronted, item_at}
 use Rattle.ttlv.proofs.FrontLaws.{found_fronted}
 use Rattle.ttlv.specs.Between.{rest, Nested, Between, Onward}
-use Rattle.ttlv.specs.Walking.{left, Starts, Closed}
+use Rattle.ttlv.specs.Walking.{left, Closed}
 use Rattle.ttlv.specs.declared.walk.Walk.{Walk}
 use mathlib.Core.Logic.{inl, inr}
 use Rattle.ttlv.proofs.ListLaws.{one, join_assoc, join_empty, empty_join, list_none, list_deep, list_broken, list_value, list_structure}
@@ -310,9 +310,6 @@ sound_if xs o e = sym (some_list 1 0 (read_at 1 xs)) ∙ ap is_some e
 pub record Telling (xs : List ℕ) (w : Walk) : Type 0 where
   pub over : w.bytes.now ≡ xs
   pub tells : is_some (left w) ≡ is_some (list_at 1 0 xs)
-
-pub tell_start : (xs : List ℕ) (w : Walk) → Starts xs w → Telling xs w
-tell_start xs w s = record { over = s.over; tells = ap is_some s.whole }
 
 some_behind : (i : Item) (r : Option (List Item)) → is_some (join (one i) r) ≡ is_some r
 unfolding join
