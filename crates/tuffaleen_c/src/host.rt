@@ -22,7 +22,9 @@ fn header_numbers(h: DiscoveryHeader) -> [u32; HEADER_PLACES]
 {
     let mut numbers = [0; HEADER_PLACES];
     numbers[0] = h.data_structure_revision;
-    numbers[1..].copy_from_slice(&h.vendor_specific.map(u32::from));
+    for (i, byte) in h.vendor_specific.iter().enumerate() {
+        numbers[1 + i] = u32::from(*byte);
+    }
     numbers
 }
 
