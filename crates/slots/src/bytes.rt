@@ -28,13 +28,13 @@ pub(crate) fn same_uid(slot: &Slot, uid: &[u8]) -> bool
 {
     let behind = &slot[1..];
     let n = usize::from(slot[0]).min(behind.len());
-    &behind[..n] == uid
+    cells::equal(&behind[..n], uid)
 }
 
 pub(crate) fn same_key(slot: &Slot, key: &[u8]) -> bool
     ensures { result ≡ same (key_of slot.now) key.now }
 {
-    &slot[HEAD_SIZE..] == key
+    cells::equal(&slot[HEAD_SIZE..], key)
 }
 
 // A slot's head from a KeyUID.
