@@ -31,6 +31,8 @@ pub(crate) fn same_uid(slot: &Slot, uid: &[u8]) -> bool
     cells::equal(&behind[..n], uid)
 }
 
+// Not in line: a search comes here only where the KeyUID is the same, and its loop is as short as it can be without this.
+#[inline(never)]
 pub(crate) fn same_key(slot: &Slot, key: &[u8]) -> bool
     ensures { result ≡ same (key_of slot.now) key.now }
 {
