@@ -17,6 +17,7 @@ const KEY_PER_IO_AT: usize = TPER_AT + TPER_PLACES;
 
 pub(crate) const FIELDS_SIZE: usize = KEY_PER_IO_AT + KEY_PER_IO_PLACES;
 
+// (b) By a loop: over `map` of the vendor's array each byte goes through memory by itself, and a whole call takes three times as long.
 fn header_numbers(h: DiscoveryHeader) -> [u32; HEADER_PLACES]
     ensures { result ≡ header_numbers h }
 {

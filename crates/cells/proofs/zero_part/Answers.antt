@@ -1,7 +1,7 @@
 -- `cells::zero_part` meets its contract: the part that is lent is there.
 -- Assumes nothing.
 use native.Mathlib.Omega.{arith}
-use Rattle.cells.specs.Cells.{zeros, zeroed_part}
+use Rattle.cells.specs.Cells.{zeroed_part}
 use Rattle.cells.proofs.CellsLaws.{not_within, zeroed}
 use Rattle.cells.proofs.zero_part.Goals as goal
 
@@ -11,10 +11,9 @@ returns-in_default c =
     rw (not_within c.args.from c.args.n c.args.part.now (omega (arith, c.in_default.ensures)))
 
 pub returns-then-to-part : goal.returns-then-to-part
-unfolding zeros
 returns-then-to-part c =
     let to = c.in-Some.ensures in
-    zeroed c.args.from c.args.n c.in-Some.to c.args.part.now (omega (arith, to.1)) (omega arith) c.fill_zero.ensures
+    zeroed c.args.from c.args.n c.in-Some.to c.args.part.now (omega (arith, to.1)) (omega arith) (c.fill.ensures.after (λ y h. h))
 
 pub returns-else-to-part : goal.returns-else-to-part
 unfolding zeroed_part
