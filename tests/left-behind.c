@@ -11,9 +11,10 @@
 #define STACK (1 << 20)
 #define RUN 4 /* bytes in a row that are a find */
 /* What the header says that a call takes at most, and what of the depth seen here is not the call's: the frame that it
- * is made from, and what memcpy and memset take. */
+ * is made from, and what memcpy and memset take. The 128 bytes that a leaf uses below its frame are seen, and are the
+ * call's. */
 #define CALL_STACK 3600
-#define NOT_OURS 256
+#define NOT_OURS 64
 
 static uint8_t image[TUFFALEEN_IMAGE_BYTES], marks[TUFFALEEN_MARKS_BYTES], out[4096], stack[STACK];
 static uint8_t key[32], kek[TUFFALEEN_KEK_BYTES], shut[TUFFALEEN_WRAPPED_BYTES], bytes[TUFFALEEN_WRAPPED_BYTES];
@@ -83,6 +84,15 @@ static void careless_of_words(void)
     for (size_t i = 0; i < sizeof key; i++)
         copy[i] = key[i ^ 3];
     (void)copy[0];
+}
+
+/* Goes too deep, so that the depth is tried too. */
+static void too_deep(void)
+{
+    volatile uint8_t deep[CALL_STACK + 2 * NOT_OURS];
+    caller_at = __builtin_frame_address(0);
+    deep[0] = 1;
+    (void)deep[0];
 }
 
 static void on_own_stack(void (*call)(void))
@@ -189,6 +199,11 @@ int main(void)
     on_own_stack(careless_of_words);
     if (!seen || found(key, sizeof key) == 0) {
         puts("left-behind: different: a key that is left is not found");
+        return 1;
+    }
+    on_own_stack(too_deep);
+    if (depth() <= CALL_STACK + NOT_OURS) {
+        puts("left-behind: different: a call that goes too deep is not seen");
         return 1;
     }
     kinds(one_line);
