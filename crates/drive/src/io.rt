@@ -124,7 +124,9 @@ fn at_place(
     Ok(Granted::Done)
 }
 
-// One I/O command. It leaves the keys as they are.
+// One I/O command. It leaves the keys as they are. Not in line: its patterns of marks, 544 bytes of stack, would stand under a wrapped load too, and
+// include/tuffaleen.h says how much a call takes at most (tests/left-behind.c).
+#[inline(never)]
 pub(crate) fn command(registers: &Registers, keys: &[u8], marks: &mut [u8], c: Command) -> Answer
     requires { Ready registers.now keys.now marks.old }
     ensures { after result registers.now keys.now marks.new

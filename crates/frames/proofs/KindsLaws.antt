@@ -20,7 +20,7 @@ use Rattle.rules.specs.declared.Tag.{Tag}
 use Rattle.rules.proofs.ChecksLaws.{then_pass}
 use Rattle.cells.specs.Cells.{part}
 use Rattle.rules.specs.State.{namespace, key_tag}
-use Rattle.rules.specs.Frames.{Frame, exactly, bad_uid_length, load_checks, read_replace, unknown_kind, kinds}
+use Rattle.rules.specs.Frames.{Frame, Reading, exactly, bad_uid_length, load_checks, read_replace, unknown_kind, kinds}
 use Rattle.frames.specs.declared.FrameRead.TheVariants.{Replace}
 use Rattle.frames.specs.declared.FrameRead.{FrameRead}
 use Rattle.std.specs.Prelude.{Result, Ok, Err, ◌≢◌}
@@ -114,9 +114,28 @@ module _ (size : ℕ) (f : List ℕ) where
   counted p = let all : length f ≡ 5 + byte 4 f + size = eqb-true _ _ (not-false _ p.1.1.0) in length_part 5 (byte 4 f) f (omega arith)
 
 -- ------------------------------------------------------------------------
--- A replace: each test that fails, with those before it passed, and the numbers where all pass
+-- Load and replace: each test that fails, with those before it passed, and the numbers where all pass
 
 module _ (f : List ℕ) where
+  -- a load, clear or wrapped, by the bytes behind the KeyUID
+  module _ (size : ℕ) (frame : Frame) where
+    abbrev loading : Reading
+    loading = record { checks = load_checks size f; frame = frame }
+
+    module _ (head : 5 ≤ length f) where
+      pub load_bad : bad_uid_length (byte 4 f) ≡ true → Err 07·04 ≡ numbered loading
+      unfolding numbered
+      load_bad bad = rw (le-ltb (length f) 5 head, bad)
+
+      module _ (good : bad_uid_length (byte 4 f) ≡ false) where
+        pub load_wrong : (length f ≡ 5 + byte 4 f + size → ⊥) → Err 07·03 ≡ numbered loading
+        unfolding numbered
+        load_wrong h = rw (le-ltb (length f) 5 head, good, ne_eqb (length f) (5 + byte 4 f + size) h)
+
+        pub load_right : length f ≡ 5 + byte 4 f + size → numbers_of frame ≡ numbered loading
+        unfolding numbered
+        load_right h = rw (le-ltb (length f) 5 head, good, eq-eqb (length f) (5 + byte 4 f + size) h)
+
   pub replace_short : length f < 5 → Err 07·03 ≡ numbered (read_replace f)
   unfolding numbered read_replace
   replace_short h = rw (lt-ltb (length f) 5 h)

@@ -156,14 +156,15 @@ fn discovery(f: &[u8]) -> Result<FrameRead, Refusal>
     Ok(FrameRead::Discovery)
 }
 
-// A KeyUID of l bytes and the key behind it, to where a load has them.
-fn place(frame: &mut [u8; FRAME_MOST], brought: &[u8; BROUGHT_MOST], l: usize)
+// A KeyUID of l bytes and the key behind it, to where a load has them. They change places with what lay there (`read` wipes `brought`): a
+// copy of a length that is not known is a call of memmove, and the archive for C needs none.
+fn place(frame: &mut [u8; FRAME_MOST], brought: &mut [u8; BROUGHT_MOST], l: usize)
     requires { l ≤ uid_most }
-    ensures { frame.new ≡ write 5 (l + key_size) (take (l + key_size) brought.now) frame.old }
+    ensures { frame.new ≡ write 5 (l + key_size) (take (l + key_size) brought.old) frame.old }
 {
     let size = l + KEY_SIZE;
     let end = 5 + size;
-    frame[5..end].copy_from_slice(&brought[..size]);
+    frame[5..end].swap_with_slice(&mut brought[..size]);
 }
 
 // The message from byte 4 on, by way of bytes that are lent: the KeyUID and the key that it brings go to where a load has them.

@@ -11,7 +11,7 @@ use lib.Dec.{eqb, ltb}
 use borrow.Author.Tests.{lt-ltb, le-ltb, eq-eqb, ne_eqb, eqb-true, not-false}
 use Rattle.std.specs.Prelude.{Ok, Err}
 use Rattle.cells.specs.Cells.{zeros}
-use Rattle.cells.proofs.CellsLaws.{push, lent_length_to, length_zeros}
+use Rattle.cells.proofs.CellsLaws.{push, copied, lent_length_to, length_zeros}
 use Rattle.rules.specs.Numbers.{key_size, uid_most}
 use Rattle.rules.specs.Slots.{FitKey}
 use Rattle.rules.specs.Frames.{bad_uid_length}
@@ -67,6 +67,16 @@ module _ (ns tag : ℕ) (uid key out : List ℕ) (hn : ns < 256) (ht : tag < 655
 
   abbrev two : List ℕ
   two = over before_size uid_end uid (front ++ drop before_size out)
+
+  -- `copy` finds as much lent as the KeyUID has bytes
+  pub uid_laid : (l k : ℕ) {so_far ys : List ℕ} → so_far ≡ before_uid l k ++ drop before_size out
+      → ys ≡ cond (eqb (length (take (uid_end - before_size) (drop before_size so_far))) (length uid)) uid
+      (take (uid_end - before_size) (drop before_size so_far))
+      → ys ≡ uid
+  unfolding before_uid
+  uid_laid l k {so_far} is e =
+      let as_long : length so_far ≡ before_size + length (drop before_size out) = ap length is ∙ length-append (before_uid l k) (drop before_size out) in
+      e ∙ copied before_size uid_end so_far uid (omega (arith, simp length-drop at as_long)) (omega arith)
 
   second : two ≡ (front ++ uid) ++ drop uid_end out
   second = grown out front uid before_size uid_end refl before_long (omega arith)

@@ -58,7 +58,7 @@ pub fn read(bytes: &[u8], ns: usize, tag: usize, out: &mut [u8]) -> Result<usize
     if n == 0 || n > UID_MOST {
         return Err(ReadError::BadKeyUid);
     }
-    out[..n].copy_from_slice(uid);
+    cells::copy(&mut out[..n], uid);
     out[n..n + KEY_SIZE].copy_from_slice(key);
     Ok(n)
 }

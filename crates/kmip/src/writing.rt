@@ -84,7 +84,7 @@ pub(crate) fn lay(ns: u8, tag: u16, uid: &[u8], key: &[u8; KEY_SIZE], out: &mut 
     let key_at = at + BETWEEN;
     let end = key_at + KEY_SIZE;
     out[..BEFORE].copy_from_slice(&up_to_uid(l, room));
-    out[BEFORE..uid_end].copy_from_slice(uid);
+    cells::copy(&mut out[BEFORE..uid_end], uid);
     out[uid_end..at].fill(0);
     out[at..key_at].copy_from_slice(&up_to_key(ns, tag));
     out[key_at..end].copy_from_slice(key);

@@ -45,15 +45,14 @@ no_state (suc (suc (suc (suc field)))) some none = omega arith
 -- ------------------------------------------------------------------------
 -- Where every test passes
 
-module _ (locks : BootLocks) (d : ℕ) (fits : d < 2 ^ 32) (none : d / 64 ≡ 0) {p q : Lock} where
-  pub decided_done : bit_and d 7 ≤ 3 → d / 8 ≤ 3
-      → p ≡ asked (bit_and d 7) locks.partition0 → q ≡ asked (d / 8) locks.partition1
+module _ (locks : BootLocks) (d : ℕ) (fits : d < 2 ^ 32) (none : d / 64 ≡ 0) {f g : ℕ} {p q : Lock} where
+  -- f and g are the fields, however they were taken out
+  pub decided_done : f ≡ field0 d → g ≡ field1 d → f ≤ 3 → g ≤ 3
+      → p ≡ asked f locks.partition0 → q ≡ asked g locks.partition1
       → held locks.partition0 p ≡ false → held locks.partition1 q ≡ false
       → ◌≡◌ {A = Result BootLocks Refusal} (Ok (record { partition0 = p; partition1 = q })) (decided locks d)
   unfolding decided
-  decided_done low0 low1 is0 is1 free0 free1 =
-      let e0 = field0_mask d in
-      let e1 = field1_shift d none in
+  decided_done e0 e1 low0 low1 is0 is1 free0 free1 =
       let valid : invalid_fields d ≡ false = rw (← e0, ← e1, ← rest_shift d fits, le-ltb _ _ low0, le-ltb _ _ low1, none) in
       let free : not_changeable locks d ≡ false = rw (← e0, ← e1) (neither _ _ (rw is0 at free0) (rw is1 at free1)) in
       rw (is0 ∙ ap (λ n. asked n locks.partition0) e0, is1 ∙ ap (λ n. asked n locks.partition1) e1, valid, free)

@@ -1,1 +1,3 @@
 pub mod DecidingLaws
+pub mod Lent
+pub mod Values

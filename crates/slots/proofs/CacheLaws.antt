@@ -19,7 +19,7 @@ use Rattle.std.specs.Simd.{first_chunks}
 use Rattle.std.proofs.lemmas.List.{drop-replicate}
 use Rattle.cells.specs.Cells.{part, cell, zeros, put, fill}
 use Rattle.cells.specs.Predicates.{same}
-use Rattle.cells.proofs.CellsLaws.{part_whole, fill_front, fill_one}
+use Rattle.cells.proofs.CellsLaws.{length_cell, part_cell, part_whole, fill_front, fill_one}
 use Rattle.cells.proofs.ChunksLaws.{length_chunks, chunk_at}
 use Rattle.cells.proofs.PredicatesLaws.{same_split, same_byte}
 use Rattle.rules.specs.declared.Namespace.{Namespace}
@@ -27,7 +27,7 @@ use Rattle.rules.specs.Numbers.{namespaces, tags_most, uid_most, key_size, slot_
 use Rattle.rules.specs.State.{wrong_cache, key_tag, no_namespace}
 use Rattle.rules.specs.Slots.{Contents, FitKey, place_of, padded, slot_bytes, emptied, uid_length, uid_of}
 use Rattle.rules.proofs.StateLaws.{wrong_cache_lem, right_cache}
-use Rattle.rules.proofs.SlotsLaws.{length_padded}
+use Rattle.rules.proofs.SlotsLaws.{length_padded, length_at}
 use Rattle.slots.specs.Cache.{slot_at, stored, cleared, cleared_all, tags_up_to, cleared_up_to, head_size, head_of, head_bytes}
 
 -- ------------------------------------------------------------------------
@@ -139,11 +139,11 @@ module _ (c : List ℕ) (whole : length c ≡ slot_width) where
       rw (is, e, behind, behind, all))
 
   -- the head against another: the length, then the other bytes behind the KeyUID's first n, then those
-  pub head_parts : (head : List ℕ) (n : ℕ) → length head ≡ head_size → n ≤ uid_most
+  pub slot_head_parts : (head : List ℕ) (n : ℕ) → length head ≡ head_size → n ≤ uid_most
       → same (head_of c) head
       ≡ eqb (get_or c 0 0) (get_or head 0 0)
       && (same (part (1 + n) (uid_most - n) c) (part (1 + n) (uid_most - n) head) && same (part 1 n c) (part 1 n head))
-  head_parts head n size h =
+  slot_head_parts head n size h =
       let e : uid_most ≡ n + (uid_most - n) = omega (arith, h) in
       let rest = ap (λ k. same (part 1 k c) (part 1 k head)) e
       ∙ same_split 1 1 n (uid_most - n) c head (omega arith) (omega arith)
@@ -152,6 +152,23 @@ module _ (c : List ℕ) (whole : length c ≡ slot_width) where
       ∙ same_split 0 0 1 uid_most c head (omega arith) (omega arith)
       ∙ ap (λ b. b && same (part 1 uid_most c) (part 1 uid_most head)) (same_byte 0 0 c head (omega arith) (omega arith))
       ∙ ap (λ b. eqb (get_or c 0 0) (get_or head 0 0) && b) rest
+
+-- the same where a slot stands in the cache: the length, then the KeyUID's first n bytes, then the others
+module _ (keys : List ℕ) (place : ℕ) (size : length keys ≡ cache_size) (inside : place < slot_places) where
+  pub head_parts : (head : List ℕ) (n : ℕ) → length head ≡ head_size → n ≤ uid_most
+      → same (head_of (cell slot_width place keys)) head
+      ≡ eqb (get_or keys (place * slot_width) 0) (get_or head 0 0)
+      && (same (part (place * slot_width + 1) n keys) (part 1 n head)
+      && same (part (place * slot_width + (1 + n)) (uid_most - n) keys) (part (1 + n) (uid_most - n) head))
+  head_parts head n whole h =
+      let fits : place * slot_width + slot_width ≤ length keys = omega arith in
+      let c : List ℕ = cell slot_width place keys in
+      let first = part_cell slot_width place 1 n keys fits (omega arith) in
+      let rest = part_cell slot_width place (1 + n) (uid_most - n) keys fits (omega arith) in
+      slot_head_parts c (length_cell slot_width place keys fits) head n whole h
+      ∙ ap (λ k. eqb k (get_or head 0 0) && (same (part (1 + n) (uid_most - n) c) (part (1 + n) (uid_most - n) head) && same (part 1 n c) (part 1 n head)))
+      (length_at keys place)
+      ∙ (rw (first, rest, and_comm (same (part (place * slot_width + (1 + n)) (uid_most - n) keys) (part (1 + n) (uid_most - n) head))))
 
 -- ------------------------------------------------------------------------
 -- A head from a KeyUID, and a slot from a head and a key

@@ -1,15 +1,15 @@
 -- The search for a head with another key, namespace by namespace.
 -- Assumes nothing.
 use mathlib.Core.Path.{◌≡◌, sym, ap, ◌∙◌}
-use mathlib.Core.Bool.{Bool, true, false, ◌&&◌, ◌||◌, or-false, and-true, and_assoc}
-use mathlib.Core.List.{List, [], ◌∷◌}
+use mathlib.Core.Bool.{Bool, true, false, ◌&&◌, ◌||◌, or-false}
+use mathlib.Core.List.{List}
 use Prim.Native.Nat.{ℕ, min, ◌+◌, ◌-◌, ◌*◌, ◌/◌, ◌%◌, ◌≤◌, ◌<◌}
 use native.Mathlib.Omega.{arith}
 use lib.ListN.{get_or}
-use lib.Dec.{eqb, ltb}
+use lib.Dec.{ltb}
 use borrow.Author.Tests.{lt-ltb, le-ltb}
 use Rattle.cells.specs.Cells.{cell}
-use Rattle.cells.specs.Predicates.{same, some_cell}
+use Rattle.cells.specs.Predicates.{some_cell}
 use Rattle.cells.proofs.PredicatesLaws.{then_none, some_split, some_same}
 use Rattle.rules.specs.Numbers.{namespaces, tags_most, slot_width, slot_places}
 use Rattle.sound.proofs.ScanLaws.{by_namespace}
@@ -19,7 +19,7 @@ use mathlib.Core.Logic.{by_cases}
 use native.Mathlib.Decide.{dec_lt}
 use lib.ListN.{length, take, drop}
 use lib.Seq.{take_all}
-use Rattle.std.specs.List.{fold, list_any, zip}
+use Rattle.std.specs.List.{list_any, zip}
 use Rattle.std.specs.Simd.{first_chunks}
 use Rattle.cells.proofs.ChunksLaws.{length_chunks, take_chunks, some_cell_any}
 
@@ -97,17 +97,3 @@ search_is counts head key keys size =
       place = λ ns i e c. ap (λ k. ltb (i % tags_most) (get_or counts k 0) && other_key_behind head key c) e;
       each = below_is head key keys;
     })
-
--- ------------------------------------------------------------------------
--- Two runs of bytes, two by two
-
-fold_from : (same_so_far : Bool) (xs ys : List ℕ) → length xs ≡ length ys
-    → fold (λ so p. so && eqb p.0 p.1) same_so_far (zip xs ys) ≡ same_so_far && same xs ys
-unfolding same
-fold_from b [] [] l = sym (and-true b)
-fold_from b [] (y ∷ ys) l = absurd (omega arith)
-fold_from b (x ∷ xs) [] l = absurd (omega arith)
-fold_from b (x ∷ xs) (y ∷ ys) l = fold_from (b && eqb x y) xs ys (omega arith) ∙ and_assoc b (eqb x y) (same xs ys)
-
-pub fold_same : (xs ys : List ℕ) → length xs ≡ length ys → fold (λ so p. so && eqb p.0 p.1) true (zip xs ys) ≡ same xs ys
-fold_same xs ys l = fold_from true xs ys l

@@ -28,13 +28,15 @@ pub(crate) fn same_uid(slot: &Slot, uid: &[u8]) -> bool
 {
     let behind = &slot[1..];
     let n = usize::from(slot[0]).min(behind.len());
-    &behind[..n] == uid
+    cells::equal(&behind[..n], uid)
 }
 
+// Not in line: a search comes here only where the KeyUID is the same, and its loop is as short as it can be without this.
+#[inline(never)]
 pub(crate) fn same_key(slot: &Slot, key: &[u8]) -> bool
     ensures { result ≡ same (key_of slot.now) key.now }
 {
-    &slot[HEAD_SIZE..] == key
+    cells::equal(&slot[HEAD_SIZE..], key)
 }
 
 // A slot's head from a KeyUID.

@@ -20,7 +20,7 @@ use lib.Dec.{leb, ltb}
 use borrow.Author.Tests.{le-leb, lt-leb}
 use Rattle.cells.specs.Cells.{cell}
 use Rattle.cells.specs.Predicates.{all_zero, some_cell}
-use Rattle.cells.proofs.PredicatesLaws.{some_start, some_split, some_same, some_marked}
+use Rattle.cells.proofs.PredicatesLaws.{some_start, some_split, some_same, some_list_marked}
 use Rattle.rules.specs.Numbers.{namespaces, pool_slots, tags_most, slot_width, slot_places, cache_size}
 use Rattle.rules.specs.View.{view_of, tag_above}
 use Rattle.rules.specs.State.{State, total}
@@ -163,7 +163,7 @@ each_marked [] = refl
 each_marked (c ∷ cs) = rw (unallocated_marked c, each_marked cs)
 
 pub behind_marked : (behind : List (List ℕ)) → not (all_zero (flat_map (λ x. x) behind)) ≡ list_any (λ c. slot_unsound true c) behind
-behind_marked behind = some_marked behind ∙ each_marked behind
+behind_marked behind = some_list_marked behind ∙ each_marked behind
 
 -- a count above all the slots of a namespace is as good as all
 pub namespace_split : (count : ℕ) (slots : List (List ℕ)) {m : ℕ} {front behind : List (List ℕ)}

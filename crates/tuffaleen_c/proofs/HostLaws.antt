@@ -1,10 +1,7 @@
 -- What a host is told: the refusal, or the numbers.
 -- Assumes nothing.
-use Rattle.std.proofs.Common.{◌≡◌, sym, ap, ◌∙◌, List, ◌++◌, append_assoc, length, length-append, take, drop}
+use Rattle.std.proofs.Common.{◌≡◌, ap, ◌∙◌, List, ◌++◌, append_assoc, length, length-append, take, drop}
 use Rattle.std.proofs.Common.{ℕ, ◌+◌, ◌-◌, ◌≤◌, Result, Ok, Err, arith}
-use Rattle.std.specs.Array.{IsMapOf}
-use denote.Param.Members.{Mut, Called}
-use Rattle.std.proofs.lemmas.Grind.{same_number_lists}
 use Rattle.cells.proofs.CellsLaws.{push}
 use borrow.Author.Tests.{le-ltb}
 use Rattle.rules.specs.declared.Refusal.{Refusal}
@@ -25,13 +22,6 @@ parts fields x y z lx ly =
     ap (λ (two : List ℕ). take 41 two ++ (z ++ drop 31 (drop 41 two))) (push x fields y header_places 41 lx (omega arith))
     ∙ push (x ++ y) fields z 41 fields_size l (omega arith)
     ∙ ap (λ l. l ++ drop fields_size fields) (append_assoc x y z)
-
--- an array of bytes, each made a number that equals it
-pub widened : {F : Type 0} (g : Mut F (ℕ × Unit {0}) ℕ) (f : F) (xs ys : List ℕ) {n : ℕ} → length xs ≡ n → IsMapOf g f xs ys n
-    → ((x : ℕ) (p q : F) (y : ℕ) → Called g p (x, tt) y q → y ≡ x) → ys ≡ xs
-widened g f xs ys size of each =
-    same_number_lists ys xs (of.long ∙ sym size)
-    (λ k h. let (p, q, called) = of.at k 0 0 (omega (arith, of.long)) in each _ p q _ called)
 
 module _ (bytes fields : List ℕ) (room : fields_size ≤ length fields) (o : Result Discovered Refusal) (is : o ≡ discovered bytes) where
   told_is : told fields o ≡ c_discovery bytes fields

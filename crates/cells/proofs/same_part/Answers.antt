@@ -1,7 +1,7 @@
 -- `cells::same_part` meets its contract: the part that is lent is there.
 -- Assumes nothing.
+use Rattle.std.proofs.Common.{rules, tests}
 use native.Mathlib.Omega.{arith}
-use mathlib.Core.Path.{◌∙◌}
 use Rattle.cells.specs.Predicates.{same_part}
 use Rattle.cells.proofs.CellsLaws.{not_within}
 use Rattle.cells.proofs.PredicatesLaws.{same_got}
@@ -14,4 +14,5 @@ returns-in_default c =
 
 pub returns : goal.returns
 returns c =
-    c.eq.ensures ∙ same_got c.args.from c.args.n c.in-Some.to c.args.part.now c.args.other c.get.result (c.in-Some.ensures.1) c.get.ensures.lookup.0
+    same_got c.args.from c.args.n c.in-Some.to c.args.part.now c.args.other.now c.get.result c.is_some_and.result (c.in-Some.ensures.1)
+    c.get.ensures.lookup.0 c.is_some_and.ensures (λ x told. search (rules, tests))

@@ -3,7 +3,9 @@
 use mathlib.Core.Path.{refl}
 use native.Mathlib.Omega.{arith}
 use Prim.Native.Nat.{◌+◌}
-use lib.ListN.{length}
+use lib.ListN.{length, take}
+use lib.Seq.{length-take-le}
+use borrow.Author.Tests.{eq-eqb}
 use Rattle.std.proofs.lemmas.Result.{err_from_is_err_and}
 use Rattle.cells.proofs.CellsLaws.{push}
 use Rattle.rules.specs.Numbers.{key_size}
@@ -33,6 +35,7 @@ returns c =
     let s = c.args in
     let l = c.in_ok-uid.field-0 in
     let n = length l.uid.now in
+    let as_long = eq-eqb (length (take n s.out.now)) n (length-take-le n s.out.now (grind arith)) in
     brings s.ns s.tag s.bytes.now s.out.now c.if-out.false c.request.result c.request.ensures l
     (grind arith) (good_length n c.if-n-eq0.false c.if-n-gt-UID_MOST.false) _
-    (rw (c.copy_from_slice.ensures.after, c.copy_from_slice-2.ensures.after) (push l.uid.now s.out.now l.key.now n (n + key_size) refl (omega arith)))
+    (rw (c.copy.ensures, as_long, c.copy_from_slice.ensures.after) (push l.uid.now s.out.now l.key.now n (n + key_size) refl (omega arith)))

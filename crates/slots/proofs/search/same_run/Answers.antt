@@ -8,7 +8,7 @@ use Rattle.std.specs.Slice.Iter.{iter_rest}
 use Rattle.std.specs.Iterator.Adapters.{zip_first, zip_second}
 use Rattle.std.proofs.lemmas.Iterator.{YieldsList-from_slice, YieldsList-from_zip}
 use Rattle.std.proofs.lemmas.Iterator.Consumers.{fold_from_yields_List}
-use Rattle.slots.proofs.SearchLaws.{fold_same}
+use Rattle.cells.proofs.PredicatesLaws.{fold_same}
 use Rattle.slots.proofs.search.same_run.Goals as goal
 
 pub returns : goal.returns
