@@ -3,7 +3,7 @@
 -- clearing every namespace so empties the cache.
 -- Assumes nothing.
 use mathlib.Core.Path.{◌≡◌, refl, sym, ap, ◌∙◌}
-use mathlib.Core.Bool.{true, false}
+use mathlib.Core.Bool.{Bool, true, false, not, ◌&&◌, cond}
 use mathlib.Core.Logic.{inr}
 use mathlib.Core.List.{List}
 use Prim.Native.Nat.{ℕ, zero, suc, ◌+◌, ◌-◌, ◌*◌, ◌%◌, ◌≤◌, ◌<◌}
@@ -17,7 +17,7 @@ use Rattle.cells.proofs.CellsLaws.{length_zeros, length_cell, length_fill, cell_
 use Rattle.cells.proofs.PredicatesLaws.{neither, all_zero_eq}
 use Rattle.rules.specs.declared.Namespace.{Namespace}
 use Rattle.rules.specs.Numbers.{namespaces, tags_most, slot_width, slot_places, cache_size}
-use Rattle.rules.specs.State.{State, namespace, key_tag, no_namespace, count}
+use Rattle.rules.specs.State.{State, namespace, key_tag, no_namespace, wrong_cache, count}
 use Rattle.rules.specs.Slots.{place_of, emptied}
 use Rattle.rules.specs.Sound.{unsound}
 use Rattle.rules.proofs.StateLaws.{is_namespace_lem}
@@ -40,6 +40,11 @@ first_next counts keys n h size =
     ∙ sym (cleared_up_to_is (cleared_first n counts keys) size (namespace (suc n)) (get_or counts n 0) is)
     ∙ ap (λ k. cleared_first k counts keys) (sym (add-one n))
 
+-- no tags, nothing cleared
+up_to_none : (b : Bool) (i : ℕ) (keys : List ℕ) → cond b (fill slot_width i 0 emptied keys) keys ≡ keys
+up_to_none false i keys = refl
+up_to_none true i keys = fill_none slot_width i emptied keys
+
 pub cleared_next : (counts keys : List ℕ) (n : ℕ) {before after : List ℕ} → before ≡ cleared_first n counts keys
     → after ≡ cleared_up_to (namespace (n + 1)) (get_or counts n 0) before → after ≡ cleared_first (n + 1) counts keys
 unfolding cleared_first
@@ -48,6 +53,14 @@ cleared_next counts keys n so is =
     ∙ ap (cleared_up_to (namespace (n + 1)) (get_or counts n 0)) so
     ∙ ap (λ k. cleared_up_to (namespace k) (get_or counts n 0) (cleared_first n counts keys)) (add-one n)
     ∙ ap (λ k. cleared_first k counts keys) (sym (add-one n))
+
+pub nothing_next : (counts keys : List ℕ) (n : ℕ) {before : List ℕ} → before ≡ cleared_first n counts keys → get_or counts n 0 ≡ 0
+    → before ≡ cleared_first (n + 1) counts keys
+unfolding cleared_up_to
+nothing_next counts keys n {before} so none =
+    cleared_next counts keys n so
+    (sym (ap (λ k. cleared_up_to (namespace (n + 1)) k before) none
+    ∙ up_to_none (not (wrong_cache before) && not (no_namespace (namespace (n + 1)))) (place_of (namespace (n + 1)) (key_tag 0)) before))
 
 -- ------------------------------------------------------------------------
 -- In a sound state
