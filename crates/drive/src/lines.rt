@@ -9,11 +9,11 @@ ghost use Rattle.memchr.specs.Find.{IsFirstByte, is_byte};
 use memchr::memchr;
 use rules::{ANSWER_MOST, DISCOVERY_MOST};
 
-// The digits of the lines that many kinds have: 02, 06, 09 to 0C.
+// The most digits of a line of kinds 02, 06 and 09 to 0C.
 const SHORT: usize = 4;
 
-// The first line feed. (b) The search gives it as a number that the next line waits for; behind a short line the branches give it. A session of
-// short lines takes a seventh less time so, and a line of a load or of I/O a fiftieth more.
+// The first line feed. The search gives it as a number that the next line waits for; behind a short line the branches give it. A session of
+// short lines takes a tenth to a seventh less time so, and one of longer lines up to a twentieth more.
 fn feed(text: &[u8]) -> Option<usize>
     ensures { IsFirstByte (is_byte line_feed) text.now result }
 {
@@ -34,7 +34,7 @@ impl<'a> Iterator for Lines<'a> {
 
     ghost remaining = { item_count (λ s. lines_of s.0.now) };
 
-    // In line, so that the text that is left stays in registers from line to line: a session of lines of few digits takes a quarter less time.
+    // In line, so that the text that is left stays in registers from line to line: a session of lines of few digits took a quarter less time.
     #[inline(always)]
     fn next(&mut self) -> Option<&'a [u8]> {
         let text = self.0;

@@ -94,7 +94,7 @@ pub fn clear_all(keys: &mut [u8])
 
 // A namespace's slots up to a count. In a sound state, up to its own count, that empties the namespace: no other slot is touched, so that
 // what it costs does not grow with the places that are not allocated (proofs/ClearLaws.antt). Not in line: where it is, in the drive's longest
-// function, `clear all` of few tags takes half as long again.
+// function, `clear all` of few tags takes up to half as long again.
 #[inline(never)]
 pub fn clear_up_to(keys: &mut [u8], ns: Namespace, count: u8)
     ensures { keys.new ≡ cleared_up_to ns count keys.old }
