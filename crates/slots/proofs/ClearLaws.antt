@@ -40,11 +40,6 @@ first_next counts keys n h size =
     ∙ sym (cleared_up_to_is (cleared_first n counts keys) size (namespace (suc n)) (get_or counts n 0) is)
     ∙ ap (λ k. cleared_first k counts keys) (sym (add-one n))
 
--- no tags, nothing cleared
-up_to_none : (b : Bool) (i : ℕ) (keys : List ℕ) → cond b (fill slot_width i 0 emptied keys) keys ≡ keys
-up_to_none false i keys = refl
-up_to_none true i keys = fill_none slot_width i emptied keys
-
 pub cleared_next : (counts keys : List ℕ) (n : ℕ) {before after : List ℕ} → before ≡ cleared_first n counts keys
     → after ≡ cleared_up_to (namespace (n + 1)) (get_or counts n 0) before → after ≡ cleared_first (n + 1) counts keys
 unfolding cleared_first
@@ -53,6 +48,11 @@ cleared_next counts keys n so is =
     ∙ ap (cleared_up_to (namespace (n + 1)) (get_or counts n 0)) so
     ∙ ap (λ k. cleared_up_to (namespace k) (get_or counts n 0) (cleared_first n counts keys)) (add-one n)
     ∙ ap (λ k. cleared_first k counts keys) (sym (add-one n))
+
+-- a namespace with no tags is left as it is, so that the code need not go there
+up_to_none : (b : Bool) (i : ℕ) (keys : List ℕ) → cond b (fill slot_width i 0 emptied keys) keys ≡ keys
+up_to_none false i keys = refl
+up_to_none true i keys = fill_none slot_width i emptied keys
 
 pub nothing_next : (counts keys : List ℕ) (n : ℕ) {before : List ℕ} → before ≡ cleared_first n counts keys → get_or counts n 0 ≡ 0
     → before ≡ cleared_first (n + 1) counts keys
